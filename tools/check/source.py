@@ -154,11 +154,11 @@ def variants():
 
 
 def script_lines():
-    """The lines of scripts, as (script, subject of the block, line without its answer), `times` left out."""
+    """The lines of scripts, as (script, subject of the block, line without its answer), `times` and `each` left out."""
     for script in sorted(SCRIPTS.glob("*.calls")):
         subject = ""
         for text in script.read_text().splitlines():
-            line = re.sub(r"^times \d+ ", "", " ".join(text.split("->")[0].split("#")[0].split()))
+            line = re.sub(r"^(times|each \d+) \d+ ", "", " ".join(text.split("->")[0].split("#")[0].split()))
             if line:
                 subject = line.split()[0] if line.split()[0] in SUBJECTS and line != "list" else subject
                 yield script, subject, line

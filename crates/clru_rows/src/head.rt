@@ -37,6 +37,8 @@ pub struct Head {
     pub by_number: bool,
     /// Whether letters of either case are equal.
     pub folded: bool,
+    /// Whether a source gives the double of the number that a key is, and not its letters.
+    pub doubled: bool,
     /// How many entries it holds at first: the keys 0, 1, .. in this order, each with itself as its value, or with 0 where values
     /// weigh something.
     pub filled: usize,
@@ -55,6 +57,7 @@ impl Head {
             weighs: false,
             by_number: false,
             folded: false,
+            doubled: false,
             filled: 0,
             hash: None,
         }
@@ -88,6 +91,7 @@ impl Head {
             "refuse" => self.refuse = Some(words.number()),
             "fill" => self.filled = words.number(),
             "fold" => self.folded = true,
+            "double" => self.doubled = true,
             "weigh" => {
                 self.weighs = true;
                 self.by_number = words.passes("number");

@@ -1,4 +1,5 @@
-//! Blocks of calls of a store, over a source whose value of a key is the key's letters twice, or as often as it is told.
+//! Blocks of calls of a store, over a source whose value of a key is the key's letters twice, or as often as it is told, or the double
+//! of its number.
 ghost use Rattle.std.specs.Prelude.{⊤};
 ghost use Rattle.std.specs.Cmp.Rules.{comparing};
 ghost use Rattle.std.proofs.Common.{rules};
@@ -15,7 +16,7 @@ use clru_rows::pairs::{Hashing, Key, Value};
 use clru_rows::scale::Scale;
 use clru_rows::subject::{Subject, begin};
 use clru_rows::whole::cache_fault;
-use clru_rows::words::{Words, Wrong};
+use clru_rows::words::{Words, Wrong, number_of};
 use clru_rows::world::{World, add};
 use clru_through::{Answer, ByPromise, Fetch, Loaded, Through};
 use ration::Rationed;
@@ -32,7 +33,12 @@ struct Origin {
 impl Origin {
     /// The value of a key, which weighs its letters.
     fn value(&self, key: &Key) -> Value {
-        Value::repeated(self.world, &key.text, self.times)
+        let mut value = Value::repeated(self.world, &key.text, self.times);
+        if self.world.head.doubled {
+            let number = number_of(&key.text).unwrap_or(0);
+            value.set(number.saturating_mul(2));
+        }
+        value
     }
 }
 
