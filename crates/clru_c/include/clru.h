@@ -95,8 +95,9 @@ uint32_t clru_misses_by_capacity(const uint64_t *keys, size_t keys_len, uint64_t
 uint32_t clru_least_by_room(const uint64_t *keys, size_t keys_len, const size_t *rooms, size_t rooms_len,
                             uint64_t seed_low, uint64_t seed_high, size_t *least, size_t least_len);
 
-/* A floor of the misses for each of the rooms, which are capacities in keys: no policy misses fewer, even if it bypasses requested
- * keys and knows all requests beforehand. Unlike the least it is not always reached, but all rooms cost one sort.
+/* A floor of the misses for each of the rooms, which are capacities in keys: no policy that starts empty and takes in requested keys
+ * only misses fewer, even if it bypasses some and knows all requests beforehand. One that fetches keys before their requests may.
+ * Unlike the least the floor is not always reached, but all rooms cost one sort.
  *
  * floors has as many elements as rooms: floors[i] is for room rooms[i]. Rooms may stand in any order, and twice.
  *
@@ -115,7 +116,7 @@ uint32_t clru_floor_by_room(const uint64_t *keys, size_t keys_len, const size_t 
  * A capacity is a sum of sizes, in bytes say. sizes has as many elements as keys: sizes[i] is the size of what request i asks for.
  * A key that comes with another size is another object, so that a size never changes: two sizes of one key are two objects. Neither
  * is a hit for the other, both take room, and both count in *distinct_size. clru_greatest_sizes gives each key one size. A size of
- * 0 counts as 1.
+ * 0 counts as 1, but a key that comes with the sizes 0 and 1 is two objects as well.
  *
  * misses and missed_sizes have as many elements as capacities: misses[i] is the number of requests that miss at capacities[i], and
  * missed_sizes[i] the sum of their sizes. Capacities may come in any order, and twice. *distinct_size is the sum of the sizes of
@@ -139,7 +140,7 @@ uint32_t clru_misses_by_size(const uint64_t *keys, size_t keys_len, const size_t
                              size_t *distinct_size);
 
 /* The floors where keys have sizes: for each of the rooms one of the misses, and one of the missed size. No policy with that room
- * for the sizes of the keys held misses fewer, or less, even if it bypasses requested keys.
+ * for the sizes of the keys held that starts empty and takes in requested keys only misses fewer, or less, even if it bypasses some.
  *
  * sizes, and objects, are those of clru_misses_by_size. misses and missed_sizes have as many elements as rooms. A room may be less
  * than the greatest size.

@@ -71,7 +71,8 @@ def misses_by_size(keys, sizes, capacities, seed=SEED):
 
 
 def floor_by_room(keys, rooms, seed=SEED):
-    """A floor of the misses for each of the rooms, in keys: no policy misses fewer, even if it bypasses keys."""
+    """A floor of the misses for each of the rooms, in keys: no policy that starts empty and takes in requested keys only misses
+    fewer, even if it bypasses some."""
     keys, rooms = _numbers(keys), _numbers(rooms)
     floors = _zeros(len(rooms))
     _call("clru_floor_by_room", keys, rooms, *_words(seed), floors)
