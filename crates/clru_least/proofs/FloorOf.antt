@@ -43,7 +43,7 @@ module _ (b : ℕ) (ns sums : List ℕ) (are : AreSums ns sums) where
 
 module _ {K : Type 0} (eq : K → K → Bool) (weight : K → ℕ) where
   -- the greatest that prices say, where the volumes are sorted
-  floor_of_sorted : (h : ℕ) (rs : List K) (ts sums : List ℕ) → IsPermutation (volumes_after eq weight [] rs) ts → IsNonDecreasingBy (λ v. v) ts
+  pub floor_of_sorted : (h : ℕ) (rs : List K) (ts sums : List ℕ) → IsPermutation (volumes_after eq weight [] rs) ts → IsNonDecreasingBy (λ v. v) ts
       → AreSums ts sums → length ts + distinct eq (reverse rs) ≡ length rs
       → floor_misses eq weight h rs ≡ length rs - prefix_len (λ v. nat_le v (h * length rs)) sums
   floor_of_sorted h rs ts sums moved rising are many =

@@ -4,6 +4,7 @@ pub mod ChainWalks
 pub mod Due
 pub mod FloorOf
 pub mod Furthest
+pub mod Greedy
 pub mod Held
 pub mod Laters
 pub mod Prices

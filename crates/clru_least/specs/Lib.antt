@@ -1,6 +1,7 @@
 pub mod Chains
 pub mod FloorErrors
 pub mod FloorNumbers
+pub mod Greedy
 pub mod Next
 pub mod Passes
 pub mod Positions

@@ -7,8 +7,8 @@
 //! Contracts state it by schedules, the keys held before each request, and name no method. A policy that may bypass keys
 //! misses no fewer than the least with room for one key more (`law_least`).
 //!
-//! A floor bounds every policy, also those that bypass keys, and also if keys have sizes. One sort serves all rooms: `floor`,
-//! `FloorPass` (`law_floor`).
+//! A floor bounds every policy that starts empty and takes in requested keys only, also those that bypass keys, and also if keys have sizes. One sort serves all rooms: `floor`,
+//! `FloorPass` (`law_floor`, `law_greedy_floor`).
 #![tactic(auto)]
 
 mod chains;
@@ -18,6 +18,7 @@ mod floor_keys;
 mod floor_pass;
 mod floors;
 mod foresight;
+mod laws;
 mod next_uses;
 mod pass;
 mod positions;
@@ -30,6 +31,7 @@ pub use floor_keys::floor;
 pub use floor_pass::FloorPass;
 pub use floors::Floor;
 pub use foresight::{Foresight, least};
+pub use laws::law_greedy_floor;
 pub use pass::ForesightPass;
 pub use size_floor::SizeFloor;
 pub use std::num::NonZeroUsize;

@@ -5,7 +5,7 @@ use clru::{
     law_longest_fit, law_requests, law_schedules_by_position, law_size_bound, law_sizes,
 };
 use clru_curve::{law_bounds, law_distances, law_parts, law_spans_by_position};
-use clru_least::{law_floor, law_least};
+use clru_least::{law_floor, law_greedy_floor, law_least};
 use clru_runs::{law_included_runs, law_put_runs, law_sized_put_runs};
 
 #[test]
@@ -35,6 +35,7 @@ fn laws_are_called() {
     clru_curve::law_sizes::<u64, ()>();
     law_least::<u8>();
     law_floor::<u8>();
+    law_greedy_floor::<u8>();
 }
 
 /// `law_dropped` for the type of a closure.
