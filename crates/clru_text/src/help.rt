@@ -34,9 +34,10 @@ What is counted
     --least      also the least possible misses: the fewest of any policy that
                  takes in each requested key and no other, even if it knows all
                  requests; only in keys
-    --floor      also a floor of the misses: no policy has fewer, even one that
-                 bypasses requested keys; with --sizes one of the missed bytes
-                 too; a sample scales both as it does misses
+    --floor      also a floor of the misses: no policy that starts empty and
+                 takes in requested keys only has fewer, even one that bypasses
+                 some; with --sizes one of the missed bytes too; a sample scales
+                 both as it does misses
     --after N    the first N requests fill the cache and are not counted: misses
                  and ratios are those of the other requests; not with --least,
                  --floor, --one-size, --summary or a sample
@@ -44,8 +45,9 @@ What is counted
                  longer than T, so that their next request misses; T is in the
                  unit of the times, or if that is the second 30s, 10m, 1.5h, 7d
     --max-age T  with --times: entries expire T after their fetch, so that their
-                 next request misses and fetches them anew; the usual rows are
-                 at round numbers; not with --all, a hit ratio or --svg
+                 next request misses and fetches them anew; until then they keep
+                 their room; the usual rows are at round numbers; not with
+                 --all, a hit ratio or --svg
     --sample N   counts one key in N, by a hash, and estimates all requests from
                  them, with the memory of the sample; near a steep fall it may
                  be a tenth of the capacity off, and some hundred keys say
