@@ -1,8 +1,8 @@
 //! `KeyTable`: keys with a value each, of which nothing is dropped. A caller hashes a key once for all calls.
-ghost use Rattle.std.specs.Prelude.{◌≡◌, ◌+◌, ◌*◌, ◌^◌, ◌<◌, ◌≤◌, [], ◌∷◌, length, IfOk, IfErr, OnOk, OnErr, IsNone, IsOk, IsSome, None};
+ghost use Rattle.std.specs.Prelude.{◌≡◌, ◌+◌, ◌*◌, ◌^◌, ◌<◌, ◌≤◌, [], ◌∷◌, length, IfOk, IfErr, OnOk, OnErr, IsErr, IsNone, IsSome, None};
 ghost use Rattle.std.specs.Map.{lookup, set_value};
 ghost use Rattle.clru_linked_map.specs.LinkedMap.{hash_of};
-ghost use Rattle.clru_linked_map.specs.KeyTables.{HaveHashes, keyed, with_key};
+ghost use Rattle.clru_linked_map.specs.KeyTables.{GrowsOnlyIf, HaveHashes, NeedsPlace, keyed, with_entries, with_key};
 
 use crate::map::{LinkedHashMap, TOGETHER};
 use clru_list::NOWHERE;
@@ -18,7 +18,7 @@ const FIRST_CAPACITY: usize = 64;
 /// Keys with a value each, found by their hashes. Nothing is dropped.
 ///
 /// Calls take the hash of a key, which `hash` returns for each form of it, and no call changes the hash builder. Clauses see the
-/// entries, the latest inserted first.
+/// entries, the latest inserted first, and for how many memory was found.
 ///
 /// Takes memory for each key and its value, and two buckets and a link of 4 bytes each.
 pub struct KeyTable<K: Eq + Hash, V, S: BuildHasher, A: Allocator + Copy> {
@@ -40,7 +40,7 @@ impl<K: Eq + Hash, V, S: BuildHasher, A: Allocator + Copy> Model for KeyTable<K,
 
     ghost coded = { keyed_code K.code V.code S.code };
 
-    ghost view = { λ t. keyed t.map.entries t.map.builder };
+    ghost view = { λ t. keyed t.map.entries t.map.builder t.map.places };
 
     ghost invariant = { λ t. IsKeyed K.eq t.map.entries };
 }
@@ -48,7 +48,7 @@ impl<K: Eq + Hash, V, S: BuildHasher, A: Allocator + Copy> Model for KeyTable<K,
 impl<K: Eq + Hash, V: Copy, S: BuildHasher, A: Allocator + Copy> KeyTable<K, V, S, A> {
     /// Creates a table that holds nothing. It takes no memory.
     pub fn new(alloc: A, hash_builder: S) -> Self
-        ensures { result ≡ keyed [] hash_builder }
+        ensures { result ≡ keyed [] hash_builder 0 }
     {
         KeyTable {
             map: LinkedHashMap::new(alloc, FIRST_CAPACITY, hash_builder),
@@ -57,7 +57,8 @@ impl<K: Eq + Hash, V: Copy, S: BuildHasher, A: Allocator + Copy> KeyTable<K, V, 
 
     /// Returns the number of keys.
     pub fn len(&self) -> usize
-        ensures { result ≡ length self.now.entries }
+        ensures len { result ≡ length self.now.entries }
+        ensures held { length self.now.entries ≤ self.now.places }
     {
         self.map.len()
     }
@@ -83,7 +84,7 @@ impl<K: Eq + Hash, V: Copy, S: BuildHasher, A: Allocator + Copy> KeyTable<K, V, 
         ensures found { result ≡ lookup (Q.equivalent key) self.old.entries }
         ensures same { IsNone result → self.new ≡ self.old }
         ensures replaced { IsSome result → self.new
-            ≡ keyed (set_value (Q.equivalent key) self.old.entries value) self.old.builder }
+            ≡ with_entries self.old (set_value (Q.equivalent key) self.old.entries value) }
     {
         self.replace_near(hash, key, value, NOWHERE)
     }
@@ -100,7 +101,7 @@ impl<K: Eq + Hash, V: Copy, S: BuildHasher, A: Allocator + Copy> KeyTable<K, V, 
         ensures found { result ≡ lookup (Q.equivalent key) self.old.entries }
         ensures same { IsNone result → self.new ≡ self.old }
         ensures replaced { IsSome result → self.new
-            ≡ keyed (set_value (Q.equivalent key) self.old.entries value) self.old.builder }
+            ≡ with_entries self.old (set_value (Q.equivalent key) self.old.entries value) }
     {
         match self.map.get_mut_near(hash, key, likely) {
             Some(held) => Some(mem::replace(held, value)),
@@ -108,14 +109,17 @@ impl<K: Eq + Hash, V: Copy, S: BuildHasher, A: Allocator + Copy> KeyTable<K, V, 
         }
     }
 
-    /// Takes a new key, whose hash is given, with its value. If memory is refused, it returns the key, and the table is unchanged.
+    /// Takes a new key, whose hash is given, with its value. If memory is refused, it returns the key, and the table is unchanged; that may
+    /// be only if no place is free.
     pub fn insert(&mut self, hash: u64, key: K, value: V) -> Result<(), K>
         requires hash { hash ≡ hash_of K.Hash S.BuildHasher S.Hasher.Hasher self.old.builder key }
         requires new { lookup (K.eq key) self.old.entries ≡ None }
         requires countable { length self.old.entries + 1 < 2 ^ 64 }
-        ensures taken { OnOk result (self.new ≡ keyed ((key, value) ∷ self.old.entries) self.old.builder) }
+        ensures taken { OnOk result (self.new ≡ keyed ((key, value) ∷ self.old.entries) self.old.builder self.new.places) }
         ensures refused { OnErr result (self.new ≡ self.old) }
         ensures given_back { IfErr result (λ back. back ≡ key) }
+        ensures memory { IsErr result → NeedsPlace K.eq self.old key }
+        ensures places { GrowsOnlyIf (NeedsPlace K.eq self.old key) self.old self.new }
     {
         // (the capacity bounds how far the places of the map grow, fourfold else; each takes two buckets and a link, which are all
         // written at once)
@@ -153,16 +157,19 @@ impl<K: Eq + Hash + Copy, V: Copy, S: BuildHasher, A: Allocator + Copy> KeyTable
     }
 
     /// Gives the key, whose hash is given, a value, and returns the one that it had. The held form of a key stays. If memory for a new key
-    /// is refused, it returns the key, and the table is unchanged. Only the time depends on the likely place, which `prefetch` returns.
+    /// is refused, it returns the key, and the table is unchanged; that may be only if no place is free. Only the time depends on the
+    /// likely place, which `prefetch` returns.
     /// Cost: one comparison if the key is at that place, and else a walk along one chain too.
     pub fn put(&mut self, hash: u64, key: K, value: V, likely: usize) -> Result<Option<V>, K>
         requires hash { hash ≡ hash_of K.Hash S.BuildHasher S.Hasher.Hasher self.old.builder key }
         requires countable { length self.old.entries + 1 < 2 ^ 64 }
         ensures before { IfOk result (λ v. v ≡ lookup (K.eq key) self.old.entries) }
-        ensures taken { OnOk result (self.new ≡ keyed (with_key K.eq key value self.old.entries) self.old.builder) }
+        ensures taken { OnOk result (self.new
+            ≡ keyed (with_key K.eq key value self.old.entries) self.old.builder self.new.places) }
         ensures refused { OnErr result (self.new ≡ self.old) }
         ensures given_back { IfErr result (λ back. back ≡ key) }
-        ensures held { IsSome (lookup (K.eq key) self.old.entries) → IsOk result }
+        ensures memory { IsErr result → NeedsPlace K.eq self.old key }
+        ensures places { GrowsOnlyIf (NeedsPlace K.eq self.old key) self.old self.new }
     {
         match self.replace_near(hash, &key, value, likely) {
             Some(before) => Ok(Some(before)),
@@ -181,6 +188,8 @@ fn double_if_full<K: Eq + Hash, V, S: BuildHasher, A: Allocator + Copy>(
     requires { length map.old.entries + 1 < 2 ^ 64 }
     ensures entries { map.new.entries ≡ map.old.entries }
     ensures builder { map.new.builder ≡ map.old.builder }
+    ensures places { map.new.places ≡ map.old.places }
+    ensures held { length map.new.entries ≤ map.new.places }
     ensures room { length map.new.entries < map.new.capacity }
     ensures bound { map.new.capacity ≤ map.old.capacity + (2 * length map.old.entries + 2) }
 {

@@ -2,7 +2,7 @@
 ghost use Rattle.std.specs.Prelude.{◌≡◌, ℕ, ◌+◌, ◌^◌, ◌<◌, ◌≤◌, ◌↔◌, List, [], ◌∷◌, reverse, length, map, IfOk, IfErr, IfSome, IsErrAnd, OnOk, OnErr, IsTrue, IsNone, None, Option, is_some, true, false};
 ghost use Rattle.std.specs.List.{list_any};
 ghost use Rattle.std.specs.Map.{keys_of, lookup, set_value};
-ghost use Rattle.clru_linked_map.specs.KeyTables.{keyed};
+ghost use Rattle.clru_linked_map.specs.KeyTables.{with_entries};
 ghost use Rattle.clru_linked_map.specs.LinkedMap.{hash_of};
 ghost use Rattle.clru_curve.specs.Fetches.{fetched_at};
 ghost use Rattle.clru_model.specs.Sizes.{SameWeights, total};
@@ -337,7 +337,7 @@ fn see_again<K: Eq + Hash, Q: Equivalent<K>, S: BuildHasher, A: Allocator + Copy
     ensures found { result ≡ lookup (Q.equivalent key) seen.old.entries }
     ensures same { IsNone result → seen.new ≡ seen.old }
     ensures moved { IfSome result (λ before. seen.new
-        ≡ keyed (set_value (Q.equivalent key) seen.old.entries (fetched_at here before.first)) seen.old.builder) }
+        ≡ with_entries seen.old (set_value (Q.equivalent key) seen.old.entries (fetched_at here before.first))) }
 {
     let first = seen.get(hash, key)?.first;
     seen.replace(hash, key, Fetched { seen: here, first })

@@ -1,6 +1,6 @@
 use Rattle.std.proofs.Common.{suc, ◌∷◌, cond, Some, None, is_some, get_or, refl, sym, ap, ◌∙◌, subst, arith}
 use Rattle.std.specs.Map.{keys_of, set_value}
-use Rattle.clru_linked_map.specs.KeyTables.{keyed}
+use Rattle.clru_linked_map.specs.KeyTables.{with_entries}
 use Rattle.clru_model.proofs.Forms.{form_is}
 use Rattle.clru_curve.specs.IdlePasses.{IsIdlePass}
 use Rattle.clru_curve.specs.Seen.{seen_at}
@@ -87,7 +87,7 @@ invariant_of-self-2 g c =
     let at = key_at eq laws (g.Q.Equivalent.equivalent c.args.key) (g.met.Q.Equivalent.respects_eq c.args.key)
     s.seen.entries b (sym c.in-Some.ensures.found) in
     let moved = c.in-Some.ensures.replaced refl
-    ∙ ap (λ f. keyed (set_value f s.seen.entries (seen_at c.make_ready.new.self.requests c.args.time)) s.seen.builder) at.same in
+    ∙ ap (λ f. with_entries s.seen (set_value f s.seen.entries (seen_at c.make_ready.new.self.requests c.args.time))) at.same in
     let distance = c.remove-distance.ensures.count ∙ c.make_ready.ensures.ones (suc b.position) in
     record {
       latest = c.push.ensures.kept;
@@ -116,7 +116,7 @@ returns-clause-taken g c idle past x before passes some =
     let is = subst (λ v. IsIdlePass eq idle past v) (sym c.self.view_is) before in
     let found = found_as eq laws test form s.seen.entries x (Some b) passes (sym c.in-Some.ensures.found) in
     let moved = c.in-Some.ensures.replaced refl
-    ∙ ap (λ f. keyed (set_value f s.seen.entries (seen_at c.make_ready.new.self.requests c.args.time)) s.seen.builder) (form_is eq test form x passes) in
+    ∙ ap (λ f. with_entries s.seen (set_value f s.seen.entries (seen_at c.make_ready.new.self.requests c.args.time))) (form_is eq test form x passes) in
     let distance = c.remove-distance.ensures.count ∙ c.make_ready.ensures.ones (suc b.position) in
     rw (moved, c.push.ensures.requests, c.remove-distance.ensures.requests, c.make_ready.ensures.requests, c.count_if.ensures.counted, c.is_soon-soon.ensures)
     (IsIdlePass-again eq laws idle past s.seen.entries s.latest.blocks.items s.latest.requests s.histogram.items s.limit x c.args.time is b found

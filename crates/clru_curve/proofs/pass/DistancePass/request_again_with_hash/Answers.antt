@@ -1,7 +1,7 @@
 use Rattle.std.proofs.Common.{suc, ◌<◌, ◌∷◌, Some, None, is_some, get_or, refl, sym, ap, ◌∙◌, subst, arith, length}
 use Rattle.std.specs.Map.{set_value}
 use Rattle.std.proofs.lemmas.List.{get_or_read}
-use Rattle.clru_linked_map.specs.KeyTables.{keyed}
+use Rattle.clru_linked_map.specs.KeyTables.{with_entries}
 use Rattle.clru_model.proofs.Forms.{form_is}
 use Rattle.clru_curve.specs.Tree.{up_to}
 use Rattle.clru_curve.specs.Passes.{IsPass}
@@ -97,7 +97,7 @@ invariant_of-self-2 g c =
     s.positions.entries p (sym c.in-Some.ensures.found) in
     let d = c.remove-distance.result in let h = s.histogram.items in
     let moved = c.in-Some.ensures.replaced refl
-    ∙ ap (λ t. keyed (set_value t s.positions.entries c.make_ready.new.self.requests) s.positions.builder) at.same in
+    ∙ ap (λ t. with_entries s.positions (set_value t s.positions.entries c.make_ready.new.self.requests)) at.same in
     let distance = c.remove-distance.ensures.count ∙ c.make_ready.ensures.ones (suc p) in
     let below = distance_below eq laws inv.past s.positions.entries s.latest.blocks.items s.latest.requests h at.key inv.taken p at.found in
     let inside : d < length h = omega (arith, below, distance) in
@@ -127,7 +127,7 @@ returns-clause-taken g c past x before passes some =
     let found = found_as eq laws test form s.positions.entries x (Some p) passes (sym c.in-Some.ensures.found) in
     let d = c.remove-distance.result in let h = s.histogram.items in
     let moved = c.in-Some.ensures.replaced refl
-    ∙ ap (λ t. keyed (set_value t s.positions.entries c.make_ready.new.self.requests) s.positions.builder) (form_is eq test form x passes) in
+    ∙ ap (λ t. with_entries s.positions (set_value t s.positions.entries c.make_ready.new.self.requests)) (form_is eq test form x passes) in
     let distance = c.remove-distance.ensures.count ∙ c.make_ready.ensures.ones (suc p) in
     let below = distance_below eq laws past s.positions.entries s.latest.blocks.items s.latest.requests h x is p found in
     let inside : d < length h = omega (arith, below, distance) in

@@ -8,7 +8,7 @@ use Rattle.clru_curve.proofs.SizedAgedPassing.{AreAligned-again, seen_found, IsS
 use Rattle.clru_curve.proofs.SizedPassing.{not_too_large}
 use Rattle.clru_curve.proofs.FetchTables.{AreCounted-as, AreFetched-as}
 use Rattle.clru_curve.specs.Fetches.{fetch_times, fetched_at, seens_of, is_row_hit, times_by, AreFetched}
-use Rattle.clru_linked_map.specs.KeyTables.{keyed}
+use Rattle.clru_linked_map.specs.KeyTables.{with_entries}
 use Rattle.clru_curve.specs.LatestSizes.{sizes_from, total_from, live_from, IsRemoved, IsSummed}
 use Rattle.clru_curve.specs.Rising.{numbered}
 use Rattle.clru_curve.specs.Seen.{seen_at}
@@ -162,7 +162,7 @@ invariant_of-self-2 g c =
     let at = key_at eq laws (g.Q.Equivalent.equivalent c.args.key) (g.met.Q.Equivalent.respects_eq c.args.key)
     s.seen.entries b (sym c.in-Some.ensures.found) in
     let moved = c.in-Some.ensures.moved
-    ∙ ap (λ t. keyed (set_value t s.seen.entries (fetched_at (seen_at c.make_ready.new.self.requests c.args.time) b.first)) s.seen.builder) at.same in
+    ∙ ap (λ t. with_entries s.seen (set_value t s.seen.entries (fetched_at (seen_at c.make_ready.new.self.requests c.args.time) b.first))) at.same in
     let left = c.remove-span.new.self.sizes.items in let pushed = c.push.new.self.sizes.items in
     let d = c.drop_empty.new.self in let ts = d.sizes.items in
     let removed = subst (λ l. IsRemoved l p left) e.sizes c.remove-span.ensures.removed in
@@ -206,7 +206,7 @@ returns-clause-taken g c w cs idle age past x same before weighs passes some =
     let is = subst (λ v. IsSizedAgedPass eq w cs idle age past v) (sym c.self.view_is) before in
     let found = found_as eq laws test form s.seen.entries x (Some b) passes (sym c.in-Some.ensures.found) in
     let moved = c.in-Some.ensures.moved
-    ∙ ap (λ t. keyed (set_value t s.seen.entries (fetched_at (seen_at c.make_ready.new.self.requests c.args.time) b.first)) s.seen.builder)
+    ∙ ap (λ t. with_entries s.seen (set_value t s.seen.entries (fetched_at (seen_at c.make_ready.new.self.requests c.args.time) b.first)))
     (form_is eq test form x passes) in
     let left = c.remove-span.new.self.sizes.items in let pushed = c.push.new.self.sizes.items in
     let d = c.drop_empty.new.self in let ts = d.sizes.items in

@@ -1,6 +1,6 @@
 use Rattle.std.proofs.Common.{◌≡◌, ◌+◌, suc, [], ◌∷◌, ◌++◌, Some, None, is_some, refl, sym, ap, ◌∙◌, subst, arith}
 use Rattle.std.specs.Map.{set_value}
-use Rattle.clru_linked_map.specs.KeyTables.{keyed}
+use Rattle.clru_linked_map.specs.KeyTables.{with_entries}
 use Rattle.clru_model.proofs.Forms.{form_is}
 use Rattle.clru_curve.proofs.Forms.{key_at, found_as}
 use Rattle.clru_curve.proofs.LatestSizes.{total_zero, removed_less, moved_lives, moved_totals, moved_less}
@@ -108,7 +108,7 @@ invariant_of-self-2 g c =
     let at = key_at eq laws (g.Q.Equivalent.equivalent c.args.key) (g.met.Q.Equivalent.respects_eq c.args.key)
     s.positions.entries p (sym c.in-Some.ensures.found) in
     let moved = c.in-Some.ensures.replaced refl
-    ∙ ap (λ t. keyed (set_value t s.positions.entries c.make_ready.new.self.requests) s.positions.builder) at.same in
+    ∙ ap (λ t. with_entries s.positions (set_value t s.positions.entries c.make_ready.new.self.requests)) at.same in
     let left = c.remove-span.new.self.sizes.items in let pushed = c.push.new.self.sizes.items in
     let d = c.drop_empty.new.self in let ts = d.sizes.items in
     let removed = subst (λ l. IsRemoved l p left) e.sizes c.remove-span.ensures.removed in
@@ -141,7 +141,7 @@ returns-clause-taken g c w past x same before weighs passes some =
     let is = subst (λ v. IsSizedPass eq w past v) (sym c.self.view_is) before in
     let found = found_as eq laws test form s.positions.entries x (Some p) passes (sym c.in-Some.ensures.found) in
     let moved = c.in-Some.ensures.replaced refl
-    ∙ ap (λ t. keyed (set_value t s.positions.entries c.make_ready.new.self.requests) s.positions.builder) (form_is eq test form x passes) in
+    ∙ ap (λ t. with_entries s.positions (set_value t s.positions.entries c.make_ready.new.self.requests)) (form_is eq test form x passes) in
     let left = c.remove-span.new.self.sizes.items in let pushed = c.push.new.self.sizes.items in
     let d = c.drop_empty.new.self in let ts = d.sizes.items in
     let removed = subst (λ l. IsRemoved l p left) e.sizes c.remove-span.ensures.removed in
