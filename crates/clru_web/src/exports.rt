@@ -25,7 +25,7 @@ use std::num::NonZeroUsize;
 /// `written` how many bytes that are. If the program fails, it is the line for standard error, cut if there is no room, and
 /// without the quote of a line that has no size or no time. All memory comes from the block `loan`, and none of it is used after the call.
 ///
-/// - 0: the text is the report, or what `--version` or `--help` prints, but for the paragraph on `--split`.
+/// - 0: the text is the report, or what `--version` or `--help` prints.
 /// - 2: the arguments are refused, or a capacity is below the greatest size.
 /// - 3: the block was too small. It says nothing of the log: with a larger block the same call may have another result.
 /// - 5: `text` is too short for the report. With a longer one the same call may have another result.
