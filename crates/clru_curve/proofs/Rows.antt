@@ -6,7 +6,7 @@ use Rattle.std.proofs.lemmas.List.{get_or_append_left, get_or_push}
 use Rattle.std.proofs.lemmas.List.Sums.{sum_by-cons}
 use Rattle.std.proofs.lemmas.Nat.{mul-le, le-div}
 use Rattle.std.proofs.Math.Nat.{add-mul, div-mul-le_self}
-use Rattle.clru_curve.specs.Splits.{missed_at, AreParts, total_missed, IsSplit, IsBestSplit}
+use Rattle.clru_curve.specs.Splits.{missed_at, AreParts, total_missed, IsSplit, IsBestSplit, IsFirstBest, ComesFirst}
 use Rattle.clru_curve.specs.Rows.{IsMinimum, IsLeastAt, IsRow, Leads, AreChoices}
 
 -- what holds at each index of two lists still does when each has one more
@@ -78,29 +78,71 @@ module _ {C : Type 0} (all : C → ℕ) (missed : C → ℕ → Option ℕ) (ste
         omega (arith, min.least y one.0 within at, low, others.total, here)
 
     -- the price that is chosen
-    first : missed_at all missed c (x * step) ≡ Some min.attained.0
-    first = sym (priced x min.within) ∙ min.attained.1
+    price_is : missed_at all missed c (x * step) ≡ Some min.attained.0
+    price_is = sym (priced x min.within) ∙ min.attained.1
 
     total_of : (ks : List ℕ) → IsBestSplit all missed step ((n - x) * step) cs ks
         → total_missed all missed (c ∷ cs) (x * step ∷ ks) ≡ v
     total_of ks b =
-        let here : unwrap_or (missed_at all missed c (x * step)) 0 ≡ min.attained.0 = ap (λ o. unwrap_or o 0) first in
+        let here : unwrap_or (missed_at all missed c (x * step)) 0 ≡ min.attained.0 = ap (λ o. unwrap_or o 0) price_is in
         let rest = same_total cs (n - x) (get_or row (n - x) 0) ks (is (n - x) (omega (arith, inside))) b in
         omega (arith, here, rest, min.attained.2)
 
-    pub leads : Leads all missed step c cs n x
-    leads = record {
-      within = min.within;
-      best = λ ks b.
-          let whole = sum-cons (x * step) ks in
-          record {
-            split = record {
-              parts = (record { units = x; multiple = refl; has_number = subst (λ o. IsSome o) (sym first) refl }, b.split.parts);
-              within = omega (arith, whole, b.split.within, units_left step x n min.within);
-            };
-            least = λ others s. omega (arith, least_of others s, total_of ks b);
+    best_one : (ks : List ℕ) → IsBestSplit all missed step ((n - x) * step) cs ks
+        → IsBestSplit all missed step (n * step) (c ∷ cs) (x * step ∷ ks)
+    best_one ks b =
+        let whole = sum-cons (x * step) ks in
+        record {
+          split = record {
+            parts = (record { units = x; multiple = refl; has_number = subst (λ o. IsSome o) (sym price_is) refl }, b.split.parts);
+            within = omega (arith, whole, b.split.within, units_left step x n min.within);
           };
-    }
+          least = λ others s. omega (arith, least_of others s, total_of ks b);
+        }
+
+    -- a best split gives the first curve no fewer units, and if as many, the others a best split of the rest
+    first_one : (ks : List ℕ) → IsBestSplit all missed step ((n - x) * step) cs ks → IsFirstBest all missed step ((n - x) * step) cs ks
+        → IsFirstBest all missed step (n * step) (c ∷ cs) (x * step ∷ ks)
+    first_one ks b f [] o = elim o.split.parts [ ]
+    first_one ks b f (k ∷ js) o =
+        let s = o.split in let part = s.parts.0 in let y = part.units in
+        let one = some_of (missed_at all missed c k) part.has_number in
+        let whole = sum-cons k js in
+        let fits : y * step ≤ n * step = omega (arith, part.multiple, whole, s.within) in
+        let within : y ≤ n = units_fit step y n positive fits in
+        let at : price y ≡ Some one.0 = priced y within ∙ ap (λ j. missed_at all missed c j) (sym part.multiple) ∙ one.1 in
+        let there = is (n - y) (omega (arith, inside)) in
+        let low = there.best.least js (record { parts = s.parts.1; within = omega (arith, part.multiple, whole, s.within, units_left step y n within) }) in
+        let here : unwrap_or (missed_at all missed c k) 0 ≡ one.0 = ap (λ o. unwrap_or o 0) one.1 in
+        let mine = best_one ks b in
+        let same : total_missed all missed (c ∷ cs) (k ∷ js) ≡ v =
+        omega (arith, o.least (x * step ∷ ks) mine.split, mine.least (k ∷ js) s, total_of ks b) in
+        elim (cases_lt y x) [
+          | inl fewer ↦ absurd (omega (arith, min.first y one.0 fewer at, low, there.total, here, same))
+          | inr many ↦ elim (cases_lt x y) [
+            | inl more ↦
+                let next : (x + 1) * step ≤ y * step = mul-le (x + 1) step y step (omega (arith, more)) (omega arith) in
+                inl (omega (arith, next, add-mul x 1 step, part.multiple, positive))
+            | inr few ↦
+                let equal : y ≡ x = omega (arith, many, few) in
+                let own : one.0 ≡ min.attained.0 = ap (λ o. unwrap_or o 0) (sym at ∙ ap price equal ∙ min.attained.1) in
+                let rest = is (n - x) (omega (arith, inside)) in
+                let as_much : y * step ≡ x * step = ap (λ u. u * step) equal in
+                inr (
+                  sym (part.multiple ∙ as_much),
+                  f js (record {
+                    split = record {
+                      parts = s.parts.1;
+                      within = omega (arith, as_much, part.multiple, whole, s.within, units_left step x n min.within);
+                    };
+                    least = λ ls t. omega (arith, rest.best.least ls t, rest.total, min.attained.2, own, here, same);
+                  }),
+                )
+          ]
+        ]
+
+    pub leads : Leads all missed step c cs n x
+    leads = record { within = min.within; best = best_one; first = first_one }
 
     pub least_at : IsLeastAt all missed step (c ∷ cs) n v
     least_at =
@@ -154,3 +196,17 @@ module _ {C : Type 0} (all : C → ℕ) (missed : C → ℕ → Option ℕ) (ste
             let few : units.0 ≤ budget / step = le-div units.0 budget step positive (omega (arith, units.1, s.within)) in
             b.least others (record { parts = s.parts; within = omega (arith, units.1, mul-le units.0 step (budget / step) step few (omega arith)) });
       }
+
+  pub first_of_budget : (budget : ℕ) (cs : List C) (ks : List ℕ) → IsFirstBest all missed step (budget / step * step) cs ks
+      → IsFirstBest all missed step budget cs ks
+  first_of_budget budget cs ks f others o =
+      let under = div-mul-le_self budget step in
+      let units = sum_units cs others o.split.parts in
+      let few : units.0 ≤ budget / step = le-div units.0 budget step positive (omega (arith, units.1, o.split.within)) in
+      f others (record {
+        split = record {
+          parts = o.split.parts;
+          within = omega (arith, units.1, mul-le units.0 step (budget / step) step few (omega arith));
+        };
+        least = λ ls s. o.least ls (record { parts = s.parts; within = omega (arith, under, s.within) });
+      })

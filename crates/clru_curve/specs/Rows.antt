@@ -1,13 +1,14 @@
 -- What one more curve makes of the least that misses at each number of units, and the choices that lead to it. No public
 -- clause cites it.
 use Rattle.std.specs.Prelude.{◌≡◌, ℕ, ◌+◌, ◌-◌, ◌*◌, ◌<◌, ◌≤◌, List, [], ◌∷◌, ◌++◌, length, slice_index, Option, Some}
-use Rattle.clru_curve.specs.Splits.{total_missed, IsBestSplit}
+use Rattle.clru_curve.specs.Splits.{total_missed, IsBestSplit, IsFirstBest}
 
--- v is the least sum of the price of some units, of n, and of what is before at the others; x units have it
+-- v is the least sum of the price of some units, of n, and of what is before at the others; x units have it, and no fewer
 pub record IsMinimum (price : ℕ → Option ℕ) (before : List ℕ) (n v x : ℕ) : Type 0 where
   pub within : x ≤ n
   pub attained : (p : ℕ) × (price x ≡ Some p) × (v ≡ p + slice_index before (n - x))
   pub least : (y p : ℕ) → y ≤ n → price y ≡ Some p → v ≤ p + slice_index before (n - y)
+  pub first : (y p : ℕ) → y < x → price y ≡ Some p → v < p + slice_index before (n - y)
 
 module _ {C : Type 0} (all : C → ℕ) (missed : C → ℕ → Option ℕ) (step : ℕ) where
   -- a best split within n units misses v
@@ -25,6 +26,8 @@ module _ {C : Type 0} (all : C → ℕ) (missed : C → ℕ → Option ℕ) (ste
     pub within : x ≤ n
     pub best : (ks : List ℕ) → IsBestSplit all missed step ((n - x) * step) cs ks
         → IsBestSplit all missed step (n * step) (c ∷ cs) (x * step ∷ ks)
+    pub first : (ks : List ℕ) → IsBestSplit all missed step ((n - x) * step) cs ks → IsFirstBest all missed step ((n - x) * step) cs ks
+        → IsFirstBest all missed step (n * step) (c ∷ cs) (x * step ∷ ks)
 
   -- for each curve, the last one first, the units that lead to a best split, at each number of units below w
   abbrev pub AreChoices : ℕ → List C → List ℕ → Type 0

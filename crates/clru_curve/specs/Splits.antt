@@ -1,5 +1,11 @@
 -- Capacities for several curves within one budget, and the best of them. Public clauses cite them.
-use Rattle.std.specs.Prelude.{◌≡◌, ℕ, zero, suc, ◌+◌, ◌*◌, ◌≤◌, List, [], ◌∷◌, sum, Option, Some, unwrap_or, IsSome, ⊤}
+use Rattle.std.specs.Prelude.{◌≡◌, ◌⊎◌, ℕ, zero, suc, ◌+◌, ◌*◌, ◌<◌, ◌≤◌, List, [], ◌∷◌, sum, Option, Some, unwrap_or, IsSome, ⊤}
+
+-- the first number that differs is less than its partner
+abbrev pub ComesFirst : List ℕ → List ℕ → Type 0
+ComesFirst [] ks = ⊤
+ComesFirst (j ∷ js) [] = ⊥
+ComesFirst (j ∷ js) (k ∷ ks) = (j < k) ⊎ ((j ≡ k) × ComesFirst js ks)
 
 module _ {C : Type 0} (all : C → ℕ) (missed : C → ℕ → Option ℕ) where
   -- what misses at a capacity, where the curve has a number: with no room all does
@@ -36,3 +42,7 @@ module _ {C : Type 0} (all : C → ℕ) (missed : C → ℕ → Option ℕ) wher
     pub split : IsSplit step budget curves capacities
     pub least : (others : List ℕ) → IsSplit step budget curves others
         → total_missed curves capacities ≤ total_missed curves others
+
+  -- it comes before each best split: the one with the least first capacity, of those the one with the least second, and so on
+  abbrev pub IsFirstBest : ℕ → ℕ → List C → List ℕ → Type 0
+  IsFirstBest step budget curves capacities = (others : List ℕ) → IsBestSplit step budget curves others → ComesFirst capacities others

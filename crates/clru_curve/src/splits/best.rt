@@ -2,7 +2,7 @@
 ghost use Rattle.std.specs.Prelude.{◌≡◌, ◌+◌, ◌-◌, ◌*◌, ◌^◌, ◌<◌, ◌≤◌, [], IfOk, IsOk};
 ghost use Rattle.std.specs.Int.NonZero.{non_zero_usize_get};
 ghost use Rattle.clru_curve.specs.Rows.{AreChoices};
-ghost use Rattle.clru_curve.specs.Splits.{IsBestSplit};
+ghost use Rattle.clru_curve.specs.Splits.{IsBestSplit, IsFirstBest};
 
 use crate::splits::curve::{Curve, prices};
 use crate::splits::row::next_row;
@@ -12,8 +12,8 @@ use std::num::NonZeroUsize;
 /// Returns a capacity for each curve, in their order, such that no other split misses less in total. Each capacity is a multiple
 /// of the step at which its curve has a number, or 0 for no cache, and together they are within the budget.
 ///
-/// The contract leaves open which of several best splits is returned: it is the one with the least first capacity, and of those
-/// the one with the least second, and so on. Memory may be refused; without curves none is asked for.
+/// Of several best splits it returns the one with the least first capacity, of those the one with the least second, and so on. Memory
+/// may be refused; without curves none is asked for.
 /// Cost: with `n` for the budget divided by the step, a reading of each curve at `n` capacities, and `n * n / 2` sums for each
 /// curve; memory for a number for each capacity that is read, and two rows of `n` sums.
 pub fn split<C: Curve, A: Allocator + Copy>(
@@ -24,6 +24,8 @@ pub fn split<C: Curve, A: Allocator + Copy>(
 ) -> Result<Vec<usize, A>, AllocError>
     ensures best { IfOk result (λ capacities.
         IsBestSplit C.all C.missed (non_zero_usize_get step) budget curves.now capacities.items) }
+    ensures first { IfOk result (λ capacities.
+        IsFirstBest C.all C.missed (non_zero_usize_get step) budget curves.now capacities.items) }
     ensures never_refused { curves.now ≡ [] → IsOk result }
 {
     if curves.is_empty() {
@@ -71,7 +73,8 @@ fn follow<C: Curve, A: Allocator>(
     requires width { 0 < width }
     requires fits { width * step < 2 ^ 64 + step }
     requires choices { AreChoices C.all C.missed step width curves.now choices.now }
-    ensures { IfOk result (λ cs. IsBestSplit C.all C.missed step ((width - 1) * step) curves.now cs.items) }
+    ensures best { IfOk result (λ cs. IsBestSplit C.all C.missed step ((width - 1) * step) curves.now cs.items) }
+    ensures first { IfOk result (λ cs. IsFirstBest C.all C.missed step ((width - 1) * step) curves.now cs.items) }
 {
     let mut capacities = Vec::new(alloc);
     let mut left = width - 1;

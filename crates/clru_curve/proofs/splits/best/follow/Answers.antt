@@ -1,6 +1,6 @@
 use Rattle.std.proofs.Common.{◌+◌, ◌-◌, ◌*◌, ◌^◌, ◌<◌, ◌∷◌, ◌++◌, [], length, get_or, sym, ap, ◌∙◌, subst, arith}
 use Rattle.std.proofs.lemmas.List.{append_assoc, append-nil, drop_all, take_all}
-use Rattle.clru_curve.specs.Splits.{IsBestSplit}
+use Rattle.clru_curve.specs.Splits.{IsBestSplit, IsFirstBest}
 use Rattle.clru_curve.specs.Rows.{AreChoices}
 use Rattle.clru_curve.proofs.Rows.{best_none}
 use Rattle.clru_curve.proofs.Following.{is_next, part_fits}
@@ -65,16 +65,32 @@ loop-preserved g c =
           (subst (λ cs. IsBestSplit g.C.Curve.all g.C.Curve.missed step (c.loop.left * step) cs (k ∷ ks)) (sym next.first) more) in
           subst (λ l. IsBestSplit g.C.Curve.all g.C.Curve.missed step ((c.args.width - 1) * step) c.args.curves.now l)
           (sym (ap (λ l. l ++ ks) c.in_ok-push.ensures.items ∙ append_assoc caps (k ∷ []) ks)) whole;
+      first = λ ks b f.
+          let whole = c.loop.invariant.first (k ∷ ks)
+          (subst (λ cs. IsBestSplit g.C.Curve.all g.C.Curve.missed step (c.loop.left * step) cs (k ∷ ks)) (sym next.first) (next.leads.best ks b))
+          (subst (λ cs. IsFirstBest g.C.Curve.all g.C.Curve.missed step (c.loop.left * step) cs (k ∷ ks)) (sym next.first) (next.leads.first ks b f)) in
+          subst (λ l. IsFirstBest g.C.Curve.all g.C.Curve.missed step ((c.args.width - 1) * step) c.args.curves.now l)
+          (sym (ap (λ l. l ++ ks) c.in_ok-push.ensures.items ∙ append_assoc caps (k ∷ []) ks)) whole;
     }
 
-pub returns : goal.returns
-returns g c =
+pub returns-clause-best : goal.returns-clause-best
+returns-clause-best g c =
     let step = c.args.step in let curves = c.args.curves.now in
     let none = drop_all c.loop.counter curves (omega (arith, c.loop-test.false)) in
     let whole = c.loop.invariant.best []
     (subst (λ cs. IsBestSplit g.C.Curve.all g.C.Curve.missed step (c.loop.left * step) cs []) (sym none)
     (best_none g.C.Curve.all g.C.Curve.missed step (c.loop.left * step))) in
     subst (λ l. IsBestSplit g.C.Curve.all g.C.Curve.missed step ((c.args.width - 1) * step) curves l)
+    (append-nil c.loop.capacities.items) whole
+
+pub returns-clause-first : goal.returns-clause-first
+returns-clause-first g c =
+    let step = c.args.step in let curves = c.args.curves.now in
+    let none = drop_all c.loop.counter curves (omega (arith, c.loop-test.false)) in
+    let whole = c.loop.invariant.first []
+    (subst (λ cs. IsBestSplit g.C.Curve.all g.C.Curve.missed step (c.loop.left * step) cs []) (sym none)
+    (best_none g.C.Curve.all g.C.Curve.missed step (c.loop.left * step))) (λ others o. tt) in
+    subst (λ l. IsFirstBest g.C.Curve.all g.C.Curve.missed step ((c.args.width - 1) * step) curves l)
     (append-nil c.loop.capacities.items) whole
 
 pub loop-init : goal.loop-init
@@ -85,4 +101,6 @@ loop-init g c = record {
       (sym (take_all (length c.args.choices.now) c.args.choices.now (omega arith))) c.requires.choices;
   best = λ ks b. subst (λ l. IsBestSplit g.C.Curve.all g.C.Curve.missed c.args.step ((c.args.width - 1) * c.args.step) c.args.curves.now (l ++ ks))
       (sym c.new-capacities.ensures.items) b;
+  first = λ ks b f. subst (λ l. IsFirstBest g.C.Curve.all g.C.Curve.missed c.args.step ((c.args.width - 1) * c.args.step) c.args.curves.now (l ++ ks))
+      (sym c.new-capacities.ensures.items) f;
 }
