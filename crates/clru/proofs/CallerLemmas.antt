@@ -16,6 +16,7 @@ use Rattle.clru.specs.declared.entry.EntryMut.{EntryMut}
 pub use Rattle.clru_model.proofs.Dropping.{length-weighted_drops, length-weighted_put}
 pub use Rattle.clru_model.proofs.EachEntry.{All-lookup, All-plain_put, All-touch, All-weighted_put, All-without}
 pub use Rattle.clru_model.proofs.Ends.{last_of-push}
+pub use Rattle.clru_model.proofs.Forms.{IsForm, form_is}
 pub use Rattle.clru_model.proofs.Fronts.{first_key, plain_put-before}
 pub use Rattle.clru_model.proofs.GrowingAgedRuns.{CountedAgedRuns, CountedAgedRuns-push, IsAgedStep-fresh, IsAgedStep-stale}
 pub use Rattle.clru_model.proofs.GrowingRuns.{Runs, Runs-push, Runs-length, CountedRuns, CountedRuns-push, run_ends}

@@ -10,7 +10,7 @@ use Rattle.clru_model.specs.Entries.{plain_put, touch}
 use Rattle.clru_model.proofs.Finding.{held, missed, plain_put-missed, touch-held}
 
 -- the pair that a look-up of x brings to the front has the same key
-pub first_key : {K V : Type 0} (eq : K → K → Bool) (x : K) (es : List (K × V)) → is_some (lookup (eq x) es) ≡ true
+pub first_key : {X K V : Type 0} (eq : X → K → Bool) (x : X) (es : List (K × V)) → is_some (lookup (eq x) es) ≡ true
     → {e : K × V} → slice_get (touch eq x es) 0 ≡ Some e → eq x e.0 ≡ true
 first_key eq x es found {e} first =
     let h = held (eq x) (sym found) in

@@ -139,7 +139,7 @@ module _ {K V : Type 0} (eq : K → K → Bool) (step : K → List (K × V) → 
   IsGetOr-missed x es next none made = record { held = λ h. let f = sym (is_some-lookup (eq x) es) ∙ none in cc; missed = λ h. made }
 
 -- a look-up that finds nothing leaves the entries
-pub touch-none : {K V : Type 0} (eq : K → K → Bool) (x : K) (es : List (K × V)) → is_some (lookup (eq x) es) ≡ false → touch eq x es ≡ es
+pub touch-none : {X K V : Type 0} (eq : X → K → Bool) (x : X) (es : List (K × V)) → is_some (lookup (eq x) es) ≡ false → touch eq x es ≡ es
 touch-none eq x es none = touch-missed eq x (missed (eq x) (sym none))
 
 -- one more mark and its request

@@ -13,24 +13,30 @@ use Rattle.clru_model.proofs.Sublists.{sublist_remove_entry, lookup-sublist}
 use Rattle.clru_model.proofs.Finding.{IsHeld, IsMissed, held, held_at, missed_at, touch-held, touch-missed, plain_put-held, plain_put-missed}
 use Rattle.clru_model.proofs.Finding.{with_front-touch, with_front-set_value}
 
-module _ {K V : Type 0} (eq : K → K → Bool) where
+-- by a key or a form of it
+module _ {X K V : Type 0} (eq : X → K → Bool) where
   -- a key is held or not
-  pub by_entry : {G : Type 0} (x : K) (es : List (K × V)) → (IsHeld (eq x) es → G) → (IsMissed (eq x) es → G) → G
+  pub by_entry : {G : Type 0} (x : X) (es : List (K × V)) → (IsHeld (eq x) es → G) → (IsMissed (eq x) es → G) → G
   by_entry {G} x es held missed = (elim (lookup_entry (eq x) es) as (λ o. lookup_entry (eq x) es ≡ o → G) [
     | None ↦ λ h. missed (missed_at (eq x) (sym h))
     | Some e ↦ λ h. held (held_at (eq x) (sym h))
   ]) refl
 
   -- a touch leaves the number of entries
-  pub length-touch : (x : K) (es : List (K × V)) → length (touch eq x es) ≡ length es
+  pub length-touch : (x : X) (es : List (K × V)) → length (touch eq x es) ≡ length es
   length-touch x es = by_entry x es (λ h. ap length (touch-held eq x h) ∙ h.shorter) (λ m. ap length (touch-missed eq x m))
 
   -- a removal takes one off, where the key is held
-  pub length-without : (x : K) (es : List (K × V)) → length (without eq x es) + cond (is_some (lookup (eq x) es)) 1 0 ≡ length es
+  pub length-without : (x : X) (es : List (K × V)) → length (without eq x es) + cond (is_some (lookup (eq x) es)) 1 0 ≡ length es
   length-without x es = by_entry x es
       (λ h. rw h.value (omega (arith, h.shorter)))
       (λ m. rw (m.value, m.removed) (omega arith))
 
+  -- a key that is not held is not held after a removal
+  pub missed-without : (x q : X) (es : List (K × V)) → lookup (eq q) es ≡ None → lookup (eq q) (without eq x es) ≡ None
+  missed-without x q es = lookup-sublist (eq q) (sublist_remove_entry (eq x) es)
+
+module _ {K V : Type 0} (eq : K → K → Bool) where
   new_entry : (c : ℕ) (es : List (K × V)) → length es ≤ c → 0 < c
       → suc (length (take (c - 1) es)) + cond (is_some (slice_get es (c - 1))) 1 0 ≡ length es + 1
   new_entry c es fits some = elim (slice_get_cases es (c - 1)).1 [
@@ -41,13 +47,9 @@ module _ {K V : Type 0} (eq : K → K → Bool) where
   -- a plain put adds one where it replaces no value, and takes one off where it drops a pair
   pub length-plain_put : (c : ℕ) (x : K) (v : V) (es : List (K × V)) → length es ≤ c → 0 < c
       → length (plain_put eq c x v es) + cond (is_some (plain_drop eq c x es)) 1 0 ≡ length es + cond (is_some (lookup (eq x) es)) 0 1
-  length-plain_put c x v es fits some = by_entry x es
+  length-plain_put c x v es fits some = by_entry eq x es
       (λ h. rw (plain_put-held eq x h c v, h.value) (omega (arith, h.shorter)))
       (λ m. rw (plain_put-missed eq x m c v, m.value) (new_entry c es fits some))
-
-  -- a key that is not held is not held after a removal
-  pub missed-without : (x q : K) (es : List (K × V)) → lookup (eq q) es ≡ None → lookup (eq q) (without eq x es) ≡ None
-  missed-without x q es = lookup-sublist (eq q) (sublist_remove_entry (eq x) es)
 
   -- no entry goes where none is last
   keeps_all : (c : ℕ) (es : List (K × V)) → slice_get es (c - 1) ≡ None → take (c - 1) es ≡ es
@@ -114,7 +116,7 @@ module _ {K V : Type 0} (eq : K → K → Bool) (laws : IsEquivalence eq) (c : �
   lookup-plain_put = put_at (lookup_entry (eq x) es) refl
 
 -- where a key is found, what is written to its value, once its entry has come first, is found
-pub lookup-lent : {K V : Type 0} (eq : K → K → Bool) (x : K) (es : List (K × V)) {w : V} → Some w ≡ lookup (eq x) es → (v : V)
+pub lookup-lent : {X K V : Type 0} (eq : X → K → Bool) (x : X) (es : List (K × V)) {w : V} → Some w ≡ lookup (eq x) es → (v : V)
     → lookup (eq x) (set_value (eq x) (touch eq x es) v) ≡ Some v
 lookup-lent eq x es found v =
     let h = held (eq x) (ap is_some found) in

@@ -241,6 +241,7 @@ fn looked_up<S: BuildHasher, A: Allocator + Copy>(
 ) -> bool {
     match name {
         "load" | "refresh" | "load_unless" => say_loaded(loaded(store, world, name, words), out),
+        "load_handing_to" => say_handed(store, world, words, out),
         "put" | "is_too_heavy" => fit(store, name, Key::next(world, words), out),
         "hit" | "peek" | "pop" => by_key(store, name, &Key::next(world, words), out),
         _ => return false,
@@ -264,6 +265,25 @@ fn loaded<S: BuildHasher, A: Allocator + Copy>(
             store.load_unless(key, |key, value| stale.keeps_entry(world, key, value))
         }
     }
+}
+
+/// A load whose closure notes what it is handed.
+fn say_handed<S: BuildHasher, A: Allocator + Copy>(
+    store: &mut Any<S, A>,
+    world: &'static World,
+    words: &mut Words,
+    out: &mut Out,
+) {
+    let mut dropped = Out::new(world.alloc);
+    let mut note = |key: Key, value: Value| {
+        world.note("on_drop", &key.text);
+        dropped.say(", dropped ");
+        dropped.say(&key.text);
+        say_of(" ", &value, &mut dropped);
+    };
+    let loaded = store.load_handing_to(Key::next(world, words), &mut note);
+    say_loaded(loaded, out);
+    out.say(&dropped.text);
 }
 
 /// A look-up or a removal.

@@ -8,6 +8,7 @@ use clru::{CLruCache, DefaultState, NonZeroUsize, WeightScale, ZeroWeightScale};
 use clru_through::{ByPromise, Source, Through};
 use clru_uses::clocked::{Pages, pages_of, text_within};
 use clru_uses::of_stores::changing::{Tickets, ticket_of};
+use clru_uses::of_stores::listening::forgotten_for;
 use clru_uses::of_stores::loads::{are_all_held, fetches_of_all};
 use clru_uses::of_stores::parts::{made_again, store_before};
 use clru_uses::of_stores::tiers::{Tier, value_through_two};
@@ -130,6 +131,16 @@ fn a_store_by_size_holds_what_is_light(rt: HostRuntime) {
     equal!(rt; (are_all_held(&mut store, &[1, 2, 1, 3]), store.len()), (true, 2));
     store.clear();
     equal!(rt; are_all_held(&mut store, &[1, 6]), false);
+}
+
+// A page weighs its number: the third drops both others, and the last is too heavy.
+#[test]
+fn what_a_load_drops_is_counted(rt: HostRuntime) {
+    let cache = CLruCache::with_scale(rt.alloc(), room(6), ByNumber);
+    let mut store = Through::new(cache, Doubles);
+    let numbers = [1, 2, 1, 5, 6].map(|page| forgotten_for(&mut store, page));
+    equal!(rt; numbers, [Ok(0), Ok(0), Ok(0), Ok(2), Ok(0)]);
+    equal!(rt; forgotten_for(&mut store, 100), Err(()));
 }
 
 #[test]

@@ -1,5 +1,5 @@
 -- The value that an answer stands for. Public clauses cite it.
-use Rattle.std.specs.Prelude.{◌≡◌, Bool, true, ⊤, List, Option, Some, Result, Ok, Err}
+use Rattle.std.specs.Prelude.{◌≡◌, Bool, true, false, ⊤, List, Option, Some, Result, Ok, Err}
 use Rattle.std.specs.Borrow.{Bor}
 use Rattle.std.specs.Map.{lookup}
 use Rattle.clru_through.specs.declared.answer.Answer.{Answer}
@@ -16,6 +16,16 @@ loaded_value test es (Passed v) = Some v
 abbrev pub was_fetched : {V : Type 0} → Loaded V → Bool
 was_fetched (Held fetched) = fetched
 was_fetched (Passed v) = true
+
+-- the load put the value that it fetched
+abbrev pub was_put : {V : Type 0} → Loaded V → Bool
+was_put (Held fetched) = fetched
+was_put (Passed v) = false
+
+-- the same, where the load may have failed
+abbrev pub has_put : {V E : Type 0} → Result (Loaded V) E → Bool
+has_put (Ok loaded) = was_put loaded
+has_put (Err e) = false
 
 -- the value is held after the load
 abbrev pub IsHeld : {V : Type 0} → Loaded V → Type 0

@@ -54,3 +54,12 @@ module _ {K V W R E : Type 0} (eq : K → K → Bool) (weight : K → V → ℕ)
   -- a load of x
   abbrev pub Loads : Type 0
   Loads = LoadsBy (lookup (eq x) old.cache.entries)
+
+module _ {K V W R E : Type 0} (eq : K → K → Bool) (weight : K → V → ℕ) (fetches : R → K → Result V E → R → Type 0)
+    (promise : V → Type 0) (old : Store K V W R) (x : K) (v : V) where
+  -- a load of x may put the value v: x is not held, a fetch of it may give v, which keeps the promise and is not too heavy
+  pub record MayPut : Type 0 where
+    pub absent : lookup (eq x) old.cache.entries ≡ None
+    pub fetch : (next : R) × fetches old.source x (Ok v) next
+    pub keeps : promise v
+    pub light : weight x v < old.cache.capacity

@@ -44,6 +44,7 @@ pub mod store;
 pub mod texts;
 pub mod walks;
 pub mod watched;
+pub mod weighted;
 pub mod words;
 
 use clru::{CLruCache, DefaultState, WeightScale};

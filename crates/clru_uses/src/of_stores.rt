@@ -5,6 +5,7 @@ ghost use Rattle.clru_through.specs.Steps.{Loads};
 ghost use Rattle.clru_through.specs.declared.answer.Loaded.{Loaded};
 
 pub mod changing;
+pub mod listening;
 pub mod loads;
 pub mod parts;
 pub mod tiers;

@@ -1,11 +1,11 @@
 //! Texts as keys.
-ghost use Rattle.std.specs.Prelude.{◌≡◌, Some, OnOk, OnErr};
+ghost use Rattle.std.specs.Prelude.{◌≡◌, ◌⊎◌, ℕ, None, Some, OnOk, OnErr};
 ghost use Rattle.std.specs.Map.{lookup};
 ghost use Rattle.std.specs.Str.{bytes_eq};
 ghost use Rattle.std.specs.String.{string_bytes, string_eq};
 
 use clru::CLruCache;
-use std::alloc::{AllocError, Global};
+use std::alloc::Global;
 
 /// Returns how often a page was looked at, if it is held. The text is lent, and no key is built of it.
 pub fn looks_at(looks: &mut CLruCache<String, u64>, page: &str) -> Option<u64>
@@ -14,20 +14,31 @@ pub fn looks_at(looks: &mut CLruCache<String, u64>, page: &str) -> Option<u64>
     looks.get(page).copied()
 }
 
-/// Counts one more look at a page, and returns how often it was looked at. A key is built where the page is not held.
-pub fn look(
-    looks: &mut CLruCache<String, u64>,
-    alloc: Global,
-    page: &str,
-) -> Result<u64, AllocError> {
+/// What became of a look at a page.
+#[derive(Clone, Copy, Debug, PartialEq, Eq)]
+pub enum Looked {
+    /// The page is held, and was looked at so often.
+    Counted(u64),
+    NoMemory,
+}
+
+/// Counts one more look at a page. A key is built only if the page is not held.
+pub fn look(looks: &mut CLruCache<String, u64>, alloc: Global, page: &str) -> Looked
+    ensures counted { (result ≡ Looked.NoMemory) ⊎ ((times : ℕ) × (result ≡ Looked.Counted times)
+        × (lookup (λ key. bytes_eq page.now (string_bytes key)) looks.new.entries ≡ Some times)) }
+    ensures first { lookup (λ key. bytes_eq page.now (string_bytes key)) looks.old.entries ≡ None
+        → (result ≡ Looked.NoMemory) ⊎ (result ≡ Looked.Counted 1) }
+{
     if let Some(times) = looks.get_mut(page) {
         *times = times.saturating_add(1);
-        return Ok(*times);
+        return Looked::Counted(*times);
     }
-    let key = page.to_string(alloc)?;
+    let Ok(key) = page.to_string(alloc) else {
+        return Looked::NoMemory;
+    };
     match looks.put(key, 1) {
-        Ok(_) => Ok(1),
-        Err(_) => Err(AllocError),
+        Ok(_) => Looked::Counted(1),
+        Err(_) => Looked::NoMemory,
     }
 }
 

@@ -1,16 +1,17 @@
 //! The calls that look for a key.
-ghost use Rattle.std.specs.Prelude.{◌≡◌, Some, None, slice_get, IfOk, IfErr, IfSome, IsFalse, IsSomeAnd, is_none, is_some};
+ghost use Rattle.std.specs.Prelude.{◌≡◌, ◌<◌, Some, None, slice_get, IfOk, IfErr, IfSome, IsFalse, IsSomeAnd, IsTrue, is_none, is_some};
 ghost use Rattle.std.specs.Borrow.{sem};
 ghost use Rattle.std.specs.Option.{option_copied, option_map};
 ghost use Rattle.std.specs.Map.{lookup};
 ghost use Rattle.std.specs.Map.Iter.{deref_pair};
 ghost use Rattle.clru.specs.Cache.{with_entries};
-ghost use Rattle.clru_model.specs.Entries.{touch};
+ghost use Rattle.clru.specs.Drops.{HandsOutTo, TakesEach};
+ghost use Rattle.clru_model.specs.Entries.{touch, weighted_drops};
 ghost use Rattle.clru_through.specs.Ends.{ends_loaded, ends_touched};
-ghost use Rattle.clru_through.specs.Given.{IsHeld, answer_value, loaded_value, was_fetched};
+ghost use Rattle.clru_through.specs.Given.{IsHeld, answer_value, has_put, loaded_value, was_fetched, was_put};
 ghost use Rattle.clru_through.specs.Store.{KeepsFor, Store};
 ghost use Rattle.clru_through.specs.Got.{IsGot};
-ghost use Rattle.clru_through.specs.Steps.{Loads, Takes};
+ghost use Rattle.clru_through.specs.Steps.{Loads, MayPut, Takes};
 
 use crate::answer::{Answer, Loaded};
 use crate::source::Fetch;
@@ -52,10 +53,46 @@ impl<
         ensures refused { IfErr result (λ _. self.new.cache ≡ self.old.cache) }
         ensures kept { (k : K) → R.promised self.new.source k ≡ R.promised self.old.source k }
     {
+        self.load_handing_to(key, &mut |_, _| {})
+    }
+
+    /// Does what `load` does, and hands out the pairs that it drops: `on_drop` takes each of them, the least recently used one
+    /// first. It is not called if the key is held, the fetch fails, or the value is passed on.
+    ///
+    /// The closure is borrowed, so that a caller learns from what it captured which pairs were dropped.
+    /// Cost: that of a load.
+    pub fn load_handing_to<F: FnMut(K, V)>(
+        &mut self,
+        key: K,
+        on_drop: &mut F,
+    ) -> Result<Loaded<V>, E>
+    where
+        K: Drop,
+        V: Drop,
+        requires callable { (v : V)
+            → MayPut K.eq (W.weight self.old.cache.scale) R.fetches (R.keeps (R.promised self.old.source key)) self.old key v
+            → TakesEach F.FnMut on_drop.old
+            (weighted_drops K.eq (W.weight self.old.cache.scale) self.old.cache.capacity key v self.old.cache.entries) }
+        ensures step { Loads K.eq (W.weight self.old.cache.scale) R.fetches self.old key result self.new }
+        ensures value { IfOk result (λ loaded. IsSomeAnd (loaded_value (K.eq key) self.new.cache.entries loaded)
+            (λ v. R.keeps (R.promised self.old.source key) v)) }
+        ensures fetched { IfOk result (λ loaded.
+            was_fetched loaded ≡ is_none (lookup (K.eq key) self.old.cache.entries)) }
+        ensures front { IfOk result (λ loaded. IsHeld loaded → IsSomeAnd (slice_get self.new.cache.entries 0)
+            (λ e. R.keeps (R.promised self.old.source key) e.1)) }
+        ensures refused { IfErr result (λ _. self.new.cache ≡ self.old.cache) }
+        ensures kept { (k : K) → R.promised self.new.source k ≡ R.promised self.old.source k }
+        ensures handed_out { IsTrue (has_put result) → IsSomeAnd (lookup (K.eq key) self.new.cache.entries)
+            (λ v. HandsOutTo F.FnMut on_drop.old
+            (weighted_drops K.eq (W.weight self.old.cache.scale) self.old.cache.capacity key v self.old.cache.entries)
+            on_drop.new) }
+        ensures not_called { IsFalse (has_put result) → on_drop.new ≡ on_drop.old }
+    {
         if move_to_front_if_held(&mut self.cache, &key) {
             return Ok(Loaded::Held { fetched: false });
         }
-        self.refresh(key)
+        let value = self.source.fetch(&key)?;
+        Ok(taken_handing_to(&mut self.cache, key, value, on_drop))
     }
 
     /// Returns the value of the key, and makes it the most recently used one. It is fetched first if it is not held.
@@ -175,7 +212,28 @@ where
     ensures taken { Takes K.eq (W.weight cache.old.scale) cache.old key value result cache.new }
     ensures value { loaded_value (K.eq key) cache.new.entries result ≡ Some value }
 {
-    match cache.put_with_weight(key, value, |_, _| {}) {
+    taken_handing_to(cache, key, value, &mut |_, _| {})
+}
+
+/// Puts a fetched value, hands out what the put drops, and returns what became of the value.
+fn taken_handing_to<K: Eq + Hash + Drop, V: Drop, S: BuildHasher, W: WeightScale<K, V>, A, F>(
+    cache: &mut CLruCache<K, V, S, W, A>,
+    key: K,
+    value: V,
+    on_drop: &mut F,
+) -> Loaded<V>
+where
+    A: Allocator + Copy,
+    F: FnMut(K, V),
+    requires callable { W.weight cache.old.scale key value < cache.old.capacity → TakesEach F.FnMut on_drop.old
+        (weighted_drops K.eq (W.weight cache.old.scale) cache.old.capacity key value cache.old.entries) }
+    ensures taken { Takes K.eq (W.weight cache.old.scale) cache.old key value result cache.new }
+    ensures value { loaded_value (K.eq key) cache.new.entries result ≡ Some value }
+    ensures handed_out { IsTrue (was_put result) → HandsOutTo F.FnMut on_drop.old
+        (weighted_drops K.eq (W.weight cache.old.scale) cache.old.capacity key value cache.old.entries) on_drop.new }
+    ensures not_called { IsFalse (was_put result) → on_drop.new ≡ on_drop.old }
+{
+    match cache.put_with_weight_handing_to(key, value, on_drop) {
         Ok(_) => Loaded::Held { fetched: true },
         Err(PutError::TooHeavy(_, value)) => Loaded::Passed(value),
         Err(PutError::NoMemory(_, value)) => Loaded::Passed(value),
