@@ -1,16 +1,20 @@
 //! Replays a list of requests through a cache of the given capacity, and reports which of them hit.
 #![tactic(auto)]
 
+mod fault;
 mod program;
 mod report;
 
-use clru_text::exit_status;
+use fault::status;
 use program::run;
 use std::process::ExitCode;
 
 fn main(rt: HostRuntime) -> ExitCode {
-    let outcome = run(rt.alloc(), &mut rt.stdin(), &mut rt.stdout());
-    ExitCode::from(exit_status(&outcome))
+    let number = match run(rt.alloc(), &mut rt.stdin(), &mut rt.stdout()) {
+        Ok(()) => 0,
+        Err(fault) => status(&fault),
+    };
+    ExitCode::from(number)
 }
 
 #[cfg(test)]

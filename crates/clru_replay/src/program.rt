@@ -1,11 +1,12 @@
 //! From the reader to the writer.
-ghost use Rattle.std.specs.Prelude.{◌≡◌, ◌≢◌, ◌⊎◌, ℕ, Err, None, take, IfErr, IsSomeAnd, OnOk};
+ghost use Rattle.std.specs.Prelude.{◌≡◌, ◌≢◌, ℕ, Err, None, take, IfErr, IsSomeAnd, OnOk};
 ghost use Rattle.std.specs.Io.KnownBytes.{Appends, Keeps};
 ghost use Rattle.clru_text.specs.Whole.{ReadWhole};
 ghost use Rattle.clru_replay.specs.Report.{report};
 
+use crate::fault::Fault;
 use crate::report::make_report;
-use clru_text::{Fault, ReadError, read_input, write_text};
+use clru_text::{ReadError, read_input, write_text};
 use std::alloc::Allocator;
 use std::io::{Read, Write};
 
@@ -29,9 +30,6 @@ pub fn run<R: Read, W: Write, A: Allocator + Copy>(
     // Any other fault comes before the first write.
     ensures silent { IfErr result (λ fault. fault ≢ Fault.Writing
         → Keeps (W.contents writer.old) (W.contents writer.new)) }
-    // There is no further fault.
-    ensures faults { IfErr result (λ fault. (fault ≡ Fault.BadCapacity) ⊎ (fault ≡ Fault.Memory)
-        ⊎ (fault ≡ Fault.Reading) ⊎ (fault ≡ Fault.Writing)) }
 {
     let input = match read_input(alloc, reader) {
         Ok(input) => input,

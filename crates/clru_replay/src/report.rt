@@ -2,8 +2,9 @@
 ghost use Rattle.std.specs.Prelude.{◌≡◌, ◌⊎◌, ◌+◌, Err, Some, None, IfOk, IfErr, IsSome, string_bytes};
 ghost use Rattle.clru_replay.specs.Report.{misses_line, report, text_of};
 
+use crate::fault::Fault;
 use clru::{DefaultState, replay};
-use clru_text::{Fault, capacity_of, keys_of, next_line};
+use clru_text::{capacity_of, keys_of, next_line};
 use std::alloc::{AllocError, Allocator};
 
 /// The report of an input. The first line is tested before any memory is asked for.

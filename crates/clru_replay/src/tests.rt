@@ -5,8 +5,8 @@ mod faults;
 mod large;
 mod memory;
 
+use crate::fault::{Fault, status};
 use crate::program::run;
-use clru_text::{Fault, exit_status};
 use std::alloc::{AllocError, Global};
 use std::fmt::Debug;
 use std::process::Abort;
@@ -97,9 +97,8 @@ fn each_fault_has_its_status(rt: HostRuntime) {
         (Fault::Writing, 5),
     ];
     for (fault, number) in rows {
-        equal(&rt, exit_status(&Err(fault)), number, number);
+        equal(&rt, status(&fault), number, number);
     }
-    equal(&rt, exit_status(&Ok(())), 0, "no fault");
 }
 
 // A capacity, and then 1,000 requests that go round four keys.

@@ -1,8 +1,8 @@
 // What a run asks for, what it offers its reader, and that no block is left however it ends.
 use super::fakes::Noting;
 use super::{FOUR, equal, lines};
+use crate::fault::Fault;
 use crate::program::run;
-use clru_text::Fault;
 use ration::Rationed;
 use std::alloc::Global;
 use std::io::{self, Read};

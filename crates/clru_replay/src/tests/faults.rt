@@ -1,8 +1,8 @@
 // Readers and writers that fail, and how they are called.
 use super::fakes::{Call, Dripping, Noting};
 use super::{FOUR, FOUR_MISSES, equal};
+use crate::fault::Fault;
 use crate::program::run;
-use clru_text::Fault;
 use std::alloc::Global;
 use std::io::ErrorKind;
 

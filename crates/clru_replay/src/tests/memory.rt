@@ -1,7 +1,7 @@
 // What the program returns if requests for memory are refused.
 use super::{FOUR, FOUR_MISSES, equal};
+use crate::fault::Fault;
 use crate::program::run;
-use clru_text::Fault;
 use ration::Rationed;
 use std::alloc::Global;
 
