@@ -1,6 +1,7 @@
 -- Answers, and what follows from what is known of them.
 use Rattle.std.proofs.Common.{◌≡◌, true, false, Option, None, Some, IfNone, IfSome, Result, Ok, Err, IfErr, IfOk, OnOk}
 use Rattle.std.specs.Option.{is_none}
+use Rattle.std.specs.Result.{is_ok}
 
 -- what holds of an answer holds of what follows from it
 pub ok_map : {T E : Type 0} {P Q : T → Type 0} (r : Result T E) → ((x : T) → P x → Q x) → IfOk r P → IfOk r Q
@@ -44,3 +45,16 @@ no_some P (Some x) is = absurd (cc)
 pub no_none : {X : Type 0} (P : Type 0) (o : Option X) → is_none o ≡ false → IfNone o P
 no_none P None is = absurd (cc)
 no_none P (Some x) is = tt
+
+pub of_ok : {T E P : Type 0} (r : Result T E) → is_ok r ≡ true → OnOk r P → P
+of_ok (Ok x) is p = p
+of_ok (Err e) is p = absurd (cc)
+
+pub no_ok : {T E : Type 0} (P : Type 0) (r : Result T E) → is_ok r ≡ false → OnOk r P
+no_ok P (Ok x) is = absurd (cc)
+no_ok P (Err e) is = tt
+
+-- what each of them refuses is refused of all
+pub err_all : {T E X : Type 0} (P : X → E → Type 0) (r : Result T E) → ((x : X) → IfErr r (P x)) → IfErr r (λ e. (x : X) → P x e)
+err_all P (Ok t) f = tt
+err_all P (Err e) f = f

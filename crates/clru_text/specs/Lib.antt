@@ -10,6 +10,7 @@ pub mod LinesRead
 pub mod Numbers
 pub mod Pictures
 pub mod Ratios
+pub mod Readings
 pub mod RoundNumbers
 pub mod Samples
 pub mod SipHasher

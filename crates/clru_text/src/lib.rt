@@ -1,6 +1,6 @@
 //! What programs read and write: lines, words of a command line, sizes, times, samples, pictures; faults and exit status.
 //!
-//! A program reads its input line by line by a [`LineBuffer`], or whole by [`read_input`], and takes its lines apart by
+//! A program reads its input line by line by [`read_lines`] over a [`LineBuffer`], or whole by [`read_input`], and takes its lines apart by
 //! [`next_line`] or [`keys_of`]; it reads a number of an argument or a line by [`capacity_of`] or [`digits_of`], hashes its keys under a
 //! [`Seed`], and writes its text by [`write_text`]. For readers and writers whose bytes std's contracts describe, their contracts say
 //! what was read or written. A [`Fault`] says why a program failed, and [`exit_status`] how it ends.
@@ -29,6 +29,7 @@ mod options;
 mod output;
 mod picture;
 mod ratio;
+mod reading;
 mod round;
 mod sample;
 mod seed;
@@ -49,6 +50,7 @@ pub use options::{Capacities, Form, Look, Options, Sample, Times};
 pub use output::{write_report, write_text};
 pub use picture::{Plot, PlotLine, STYLE, picture_of};
 pub use ratio::Billionths;
+pub use reading::{TakesLines, read_lines};
 pub use round::{ROUND_NUMBERS, round_at};
 pub use sample::{is_kept, times};
 pub use seed::Seed;
