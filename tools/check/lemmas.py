@@ -1,12 +1,15 @@
-"""The lemmas that callers import, with the types that their sources give them, as PROVING shows them."""
+"""The lemmas that callers import, with the types that their sources give them: crates/clru/LEMMAS.txt, by whose names PROVING goes."""
 import re
 
 import source
 
-PAGE = source.CRATES / "clru" / "PROVING.md"
+PAGE, LIST = source.CRATES / "clru" / "PROVING.md", source.CRATES / "clru" / "LEMMAS.txt"
 # What a caller imports lemmas from, in `Rattle.clru.proofs`.
 MODULES = ("CallerLemmas", "Collecting", "CallerWalks")
-WIDTH = 110
+HEAD = """What a proof of a caller imports, by module. PROVING.md says which to cite. What stands in {} is not written; a lemma that leaves `_`
+for a value takes it from the goal. Written by tools/check/proved --write.
+"""
+WIDTH = 140
 ITEM = re.compile(r"(?:abbrev )?pub (?!use )(record )?([^\s{}():]+) (.*)")
 # A parameter that nobody writes.
 OF_TYPES = re.compile(r"\{[^{}:]+ : Type 0\} ?(?:→ )?")
@@ -52,17 +55,14 @@ def module(name):
     return source.CRATES.joinpath(crate, folder, *path).with_suffix(".antt")
 
 
-def statements():
-    """The type of each name that a caller imports, by the name."""
+def statements(path):
+    """The type of each name that a caller imports from a module, by the name."""
     found = {}
-    for name in MODULES:
-        path = module(f"Rattle.clru.proofs.{name}")
-        for line in path.read_text().splitlines():
-            if match := re.fullmatch(r"pub use (\S+)\.\{(.*)\}", line):
-                there = dict(items(module(match[1])))
-                found |= {name: there[name] for name in match[2].split(", ")}
-        found |= dict(items(path))
-    return found
+    for line in path.read_text().splitlines():
+        if match := re.fullmatch(r"pub use (\S+)\.\{(.*)\}", line):
+            there = dict(items(module(match[1])))
+            found |= {name: there[name] for name in match[2].split(", ")}
+    return found | dict(items(path))
 
 
 def pieces(text):
@@ -85,33 +85,25 @@ def pieces(text):
 
 
 def shown(name, text):
-    """A statement in lines of a page."""
-    parts = pieces(OF_TYPES.sub("", text))
-    whole = f"{name} : {' '.join(parts)}"
-    if len(whole) <= WIDTH:
-        return [whole]
-    lines = [f"{name} : {parts[0]}"]
-    for part in parts[1:-1]:
+    """A statement in lines of the list."""
+    lines = [f"{name} :"]
+    for part in pieces(OF_TYPES.sub("", text)):
         if len(lines[-1]) + 1 + len(part) > WIDTH:
             lines.append(f"    {part}")
         else:
             lines[-1] += f" {part}"
-    return [*lines, f"    {parts[-1]}"]
+    return lines
 
 
-def rewritten(text):
-    """The page with each statement made anew, and what is wrong: names that it lacks, or that no caller can import."""
-    known, lines, named, is_block, is_stated = statements(), [], [], False, False
-    for line in text.splitlines():
-        if line.startswith("```"):
-            is_block, is_stated = line == "```text", False
-        match = re.match(r"(\S+) : ", line) if is_block else None
-        if match:
-            is_stated = True
-            named.append(match[1])
-            lines += shown(match[1], known[match[1]]) if match[1] in known else [line]
-        elif not is_stated or not line.startswith("    "):
-            lines.append(line)
+def written():
+    """The list as the sources have it, and the names that PROVING lacks, or that no caller can import."""
+    lines, known = [HEAD], []
+    for name in MODULES:
+        found = statements(module(f"Rattle.clru.proofs.{name}"))
+        known += found
+        lines += [f"use Rattle.clru.proofs.{name}.{{..}}", *(line for item in found.items() for line in shown(*item)), ""]
+    section = PAGE.read_text().partition("\n## Lemmas\n")[2]
+    named = re.findall(r"`([^`]+)`", " ".join(line.split("|")[2] for line in section.splitlines() if line.startswith("|")))
     wrong = [f"has no {name}" for name in known if name not in named]
-    wrong += [f"states {name}, which no caller can import" for name in named if name not in known]
-    return "\n".join(lines) + "\n", wrong
+    wrong += [f"names {name}, which no caller can import" for name in named if name not in known]
+    return "\n".join(lines).rstrip() + "\n", wrong
