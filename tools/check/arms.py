@@ -1,4 +1,5 @@
-"""The arms of clru_rows that follow from the calls: of a cache, by their signatures, and of runs, by `clru_runs/src/call.rt`."""
+"""The arms of clru_rows that follow from the calls: of a cache, by their signatures, and of runs, by `clru_runs/src/call.rt`. What is around
+them stands in these files."""
 import re
 
 import source
@@ -17,107 +18,6 @@ SAYS = {
 SIGNATURE = re.compile(r"pub fn (\w+)(?:<Q: Equivalent<K>>)?\(&(mut )?self(, key: Q)?\)(?: -> (.+?))?$")
 NUMBERS = {"K", "V", "usize"}
 WIDTH = 96
-OF_CALLS = """\
-//! The calls of a cache by their names, as far as their signatures tell. `tools/check/calls --write` writes this file.
-
-use crate::cache::Any;
-use crate::calls::{say_found, say_popped, say_taken, say_value};
-use crate::out::Out;
-use crate::pairs::{Key, Value};
-use crate::words::Words;
-use crate::world::World;
-use clru::WeightScale;
-use std::alloc::Allocator;
-use std::hash::BuildHasher;
-
-/// Makes a call that changes nothing. Returns `false` if the name is none of these.
-pub(crate) fn read<S: BuildHasher, W: WeightScale<Key, Value>, A: Allocator + Copy>(
-    cache: &Any<S, W, A>,
-    world: &'static World,
-    name: &str,
-    words: &mut Words,
-    out: &mut Out,
-) -> bool {
-    match name {
-        @READS
-        _ => match count_of(cache, name) {
-            Some(count) => out.number(count),
-            None => return false,
-        },
-    }
-    true
-}
-
-/// Returns what a call of the whole cache counts, or `None` if the name is none of these.
-fn count_of<S: BuildHasher, W: WeightScale<Key, Value>, A: Allocator + Copy>(
-    cache: &Any<S, W, A>,
-    name: &str,
-) -> Option<usize> {
-    match name {
-        @COUNTS
-        _ => None,
-    }
-}
-
-/// Makes a call that may change the cache. Returns `false` if the name is none of these.
-pub(crate) fn change<S: BuildHasher, W: WeightScale<Key, Value>, A: Allocator + Copy>(
-    cache: &mut Any<S, W, A>,
-    world: &'static World,
-    name: &str,
-    words: &mut Words,
-    out: &mut Out,
-) -> bool {
-    match name {
-        @BY_KEYS
-        @ENDS
-        _ => return false,
-    }
-    out.or("done");
-    true
-}
-
-/// Makes one of those by a key.
-fn by_key<S: BuildHasher, W: WeightScale<Key, Value>, A: Allocator + Copy>(
-    cache: &mut Any<S, W, A>,
-    name: &str,
-    key: &Key,
-    out: &mut Out,
-) {
-    match name {
-        @BY_KEY
-    }
-}
-"""
-OF_RUNS = """\
-//! The calls of a run by their names, those that take numbers alone. `tools/check/calls --write` writes this file, from
-//! `clru_runs/src/call.rt`.
-
-use clru_runs::{Call, PlainCall};
-
-/// Returns how many numbers a call takes.
-pub(crate) fn arity(name: &str) -> usize {
-    match name {
-        @ARITY
-        _ => 1,
-    }
-}
-
-/// Returns the call of that name with these numbers.
-pub(crate) fn call_of(name: &str, first: usize, second: usize) -> Option<PlainCall<usize, usize>> {
-    Some(match name {
-        @PLAIN
-        _ => return any_call(name, first, second),
-    })
-}
-
-/// Returns one that each cache has.
-fn any_call(name: &str, first: usize, second: usize) -> Option<PlainCall<usize, usize>> {
-    Some(PlainCall::Any(match name {
-        @ANY
-        _ => return None,
-    }))
-}
-"""
 
 
 def simple_calls():
@@ -143,26 +43,31 @@ def alternatives(names):
     return lines
 
 
-def filled(text, arms):
-    """A text with the arms in place of the lines that name them."""
-    return re.sub(r"( +)@(\w+)\n", lambda it: "".join(f"{it[1]}{arm},\n" for arm in arms[it[2]]), text)
+def filled(path, arms):
+    """The text of a file with these arms in the `match name` of its functions, in place of those by a name, and of `_` where they have it."""
+    text = path.read_text()
+    for function, lines in arms.items():
+        other = r"        _ .*\n" if lines[-1].startswith("_") else ""
+        found = re.search(rf'fn {function}\b(?s:.*?)match name {{\n((?:        ".*\n)*{other})', text)
+        text = text[:found.start(1)] + "".join(f"        {line},\n" for line in lines) + text[found.end(1):]
+    return text
 
 
 def of_calls():
-    """The arms of a cache's calls."""
+    """The arms of a cache's calls, by functions."""
     key, made = "&Key::next(world, words)", list(simple_calls())
     arm = lambda name, says, given="": f'"{name}" => {says.format(f"cache.{name}({given})")}'
     *by_key, (_, last) = [(name, says.format(f"cache.{name}(key)")) for name, keyed, changes, says in made if keyed and changes]
-    return filled(OF_CALLS, {
-        "READS": [arm(name, says, key if keyed else "") for name, keyed, changes, says in made if not changes and says != SAYS["usize"]],
-        "COUNTS": [arm(name, says) for name, keyed, changes, says in made if not changes and says == SAYS["usize"]],
-        "BY_KEYS": [
-            f"{names} => by_key(cache, name, {key}, out)"
-            for names in alternatives(name for name, keyed, changes, _ in made if keyed and changes)
+    names = alternatives(name for name, keyed, changes, _ in made if keyed and changes)
+    return {
+        "read": [arm(name, says, key if keyed else "") for name, keyed, changes, says in made if not changes and says != SAYS["usize"]],
+        "count_of": [arm(name, says) for name, keyed, changes, says in made if not changes and says == SAYS["usize"]],
+        "change": [
+            *(f"{some} => by_key(cache, name, {key}, out)" for some in names),
+            *(arm(name, says) for name, keyed, changes, says in made if changes and not keyed),
         ],
-        "ENDS": [arm(name, says) for name, keyed, changes, says in made if changes and not keyed],
-        "BY_KEY": [*(f'"{name}" => {says}' for name, says in by_key), f"_ => {last}"],
-    })
+        "by_key": [*(f'"{name}" => {says}' for name, says in by_key), f"_ => {last}"],
+    }
 
 
 def numbers_of(takes):
@@ -172,16 +77,16 @@ def numbers_of(takes):
 
 
 def of_runs():
-    """The arms of runs."""
+    """The arms of runs, by functions."""
     made = [(*it[:3], numbers_of(it[3])) for it in source.variants() if numbers_of(it[3]) is not None]
     arms = {
         kind: [f'"{name}" => {kind}::{word}{("", "(first)", "(first, second)")[count]}' for name, of, word, count in made if of == kind]
         for kind in ("Call", "PlainCall")
     }
     arity = [f"{names} => {some}" for some in (2, 0) for names in alternatives(name for name, _, _, count in made if count == some)]
-    return filled(OF_RUNS, {"ARITY": arity, "PLAIN": arms["PlainCall"], "ANY": arms["Call"]})
+    return {"arity": arity, "call_of": arms["PlainCall"], "any_call": arms["Call"]}
 
 
 def written():
     """The files that are written, each with its text."""
-    return {ROWS / "calls" / "arms.rt": of_calls(), ROWS / "runs" / "arms.rt": of_runs()}
+    return {path: filled(path, arms) for path, arms in ((ROWS / "calls" / "arms.rt", of_calls()), (ROWS / "runs" / "arms.rt", of_runs()))}
