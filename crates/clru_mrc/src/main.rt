@@ -1,6 +1,7 @@
 //! Reports what an LRU cache of each capacity misses on a list of requests.
 #![tactic(auto)]
 
+mod files;
 mod lines;
 mod ratio;
 mod several;
@@ -8,94 +9,32 @@ mod sized;
 mod split;
 mod votes;
 mod watch;
+mod words;
 mod written;
 
 use clru_report::run;
-use clru_shares::{SplitOptions, split_options_of};
-use clru_text::{
-    Command, Fault, HELP, Options, Refusal, Seed, VERSION, command_of, exit_status, write_report,
-};
-use split::{Budget, split_budget};
-use std::env;
-use std::io::{ErrorKind, IsTerminal};
-use std::num::NonZeroUsize;
+use clru_text::{Fault, Options, Refusal, Seed, exit_status, write_report};
+use files::InputFiles;
+use split::split_budget;
+use std::io::IsTerminal;
 use std::process::ExitCode;
 use watch::Watch;
+use words::{Asked, Task, parse_args};
 use written::Written;
 
-// What the arguments ask for.
-#[derive(Drop)]
-enum Asked {
-    Command(Command),
-    Split(SplitOptions),
-}
-
 fn main(rt: HostRuntime) -> ExitCode {
-    // A terminal sees how far the input is read, and so does who asks.
-    let mut progress = rt.stderr().is_terminal();
-    match parse_args(&rt, &mut progress) {
-        Ok(Asked::Command(command)) => ExitCode::from(run_command(&rt, &command, progress)),
-        Ok(Asked::Split(options)) => ExitCode::from(match seed_of(&rt) {
-            Some(seed) => split_budget(&rt, options, seed),
-            None => 4,
-        }),
+    ExitCode::from(match parse_args(&rt) {
+        Ok(asked) => run_task(&rt, &asked),
         Err(Refusal::Wrong(line)) => {
             say(&rt, &line);
-            ExitCode::from(2)
+            2
         }
-        Err(Refusal::Memory) => ExitCode::from(report_outcome(&rt, &Err(Fault::Memory), "")),
-    }
-}
-
-// What the arguments ask for. `--progress` asks nothing of the report, and `--split` has a budget beside it.
-fn parse_args(rt: &HostRuntime, progress: &mut bool) -> Result<Asked, Refusal> {
-    match env::args(rt) {
-        Ok(words) => {
-            let mut rest = Vec::new(rt.alloc());
-            let mut budget = Budget::new();
-            for word in words.skip(1) {
-                if budget.take(rt, word.as_str())? {
-                    continue;
-                }
-                if word.as_str() == "--progress" {
-                    *progress = true;
-                } else {
-                    let Ok(()) = rest.push(word) else {
-                        return Err(Refusal::Memory);
-                    };
-                }
-            }
-            let command = command_of(rt.alloc(), &rest)?;
-            match budget.end(rt)? {
-                Some(budget) => split_asked(rt, budget, command),
-                None => Ok(Asked::Command(command)),
-            }
-        }
-        Err(error) if error.kind() == ErrorKind::OutOfMemory => Err(Refusal::Memory),
-        Err(_) => Err(no_text(rt)),
-    }
-}
-
-// Help and version are printed whatever else is asked for.
-fn split_asked(rt: &HostRuntime, budget: NonZeroUsize, command: Command) -> Result<Asked, Refusal> {
-    let Command::Report(options) = &command else {
-        return Ok(Asked::Command(command));
-    };
-    match split_options_of(budget, options) {
-        Ok(options) => Ok(Asked::Split(options)),
-        Err(line) => Err(wrong(rt, line)),
-    }
-}
-
-fn no_text(rt: &HostRuntime) -> Refusal {
-    wrong(
-        rt,
-        "an argument is no UTF-8 text: clru_mrc --help names them",
-    )
+        Err(Refusal::Memory) => report_outcome(&rt, &Err(Fault::Memory), ""),
+    })
 }
 
 // The line of a refusal.
-fn wrong(rt: &HostRuntime, line: &str) -> Refusal {
+pub(crate) fn wrong(rt: &HostRuntime, line: &str) -> Refusal {
     match String::from_str(rt.alloc(), line) {
         Ok(line) => Refusal::Wrong(line),
         Err(_) => Refusal::Memory,
@@ -103,16 +42,29 @@ fn wrong(rt: &HostRuntime, line: &str) -> Refusal {
 }
 
 // Does it, and gives the exit status.
-fn run_command(rt: &HostRuntime, command: &Command, progress: bool) -> u8 {
-    let outcome = match command {
-        Command::Help => write_report(&mut rt.stdout(), HELP.as_bytes()),
-        Command::Version => write_report(&mut rt.stdout(), VERSION.as_bytes()),
-        Command::Report(options) => match seed_of(rt) {
-            Some(seed) => return run_report(rt, options, progress, seed),
-            None => return 4,
-        },
+fn run_task(rt: &HostRuntime, asked: &Asked) -> u8 {
+    if let Task::Print(text) = &asked.task {
+        let outcome = write_report(&mut rt.stdout(), text.as_bytes());
+        return report_outcome(rt, &outcome, "");
+    }
+    let mut files = InputFiles::new(rt, &asked.paths);
+    if !files.are_there() {
+        files.tell_trouble();
+        return 4;
+    }
+    let Some(seed) = seed_of(rt) else {
+        return 4;
     };
-    report_outcome(rt, &outcome, "")
+    files.tell_terminal();
+    match &asked.task {
+        Task::Report(options) => {
+            // A terminal sees how far the input is read, and so does who asks.
+            let progress = asked.progress || rt.stderr().is_terminal();
+            run_report(rt, options, files, progress, seed)
+        }
+        Task::Split(options) => split_budget(rt, *options, files, seed),
+        Task::Print(_) => 0,
+    }
 }
 
 // The seed for hashes, or else a line that says that there is none.
@@ -127,8 +79,15 @@ fn seed_of(rt: &HostRuntime) -> Option<Seed> {
 }
 
 // Writes the report, tells what of its input looks wrong, and gives the exit status.
-fn run_report(rt: &HostRuntime, options: &Options, progress: bool, seed: Seed) -> u8 {
-    let mut input = Watch::new(rt, rt.stdin(), progress, options, seed);
+fn run_report(
+    rt: &HostRuntime,
+    options: &Options,
+    files: InputFiles<'_>,
+    progress: bool,
+    seed: Seed,
+) -> u8 {
+    let name = files.name();
+    let mut input = Watch::new(rt, files, name, progress, options, seed);
     let mut output = Written::new(rt, rt.stdout());
     let outcome = run(rt.alloc(), options, &mut input, &mut output, seed);
     let line = match outcome {
@@ -155,6 +114,10 @@ fn run_report(rt: &HostRuntime, options: &Options, progress: bool, seed: Seed) -
             let _ = eprintln!(rt;
                 "clru_mrc: line {number} has no time: with --times each begins with one and a blank, as in 1700000000.123 /index.html{more}"
             );
+            exit_status(&outcome)
+        }
+        Err(Fault::Reading) => {
+            input.inner().tell_trouble();
             exit_status(&outcome)
         }
         _ => report_outcome(rt, &outcome, more),

@@ -1,53 +1,22 @@
-//! One budget for several caches: what follows `--split`, and its run.
+//! One budget for several caches: the word that follows `--split`, and its run.
 
+use crate::files::InputFiles;
 use crate::lines::quoted;
 use crate::wrong;
 use clru_shares::{SplitFault, SplitOptions, run_split, split_status};
 use clru_text::{Fault, Refusal, Seed, number_of_word};
 use std::num::NonZeroUsize;
 
-/// The budget that the arguments name: the word after `--split`.
-#[derive(Clone, Copy)]
-pub(crate) struct Budget {
-    named: Option<NonZeroUsize>,
-    // The next word names it.
-    is_next: bool,
-}
-
-impl Budget {
-    pub(crate) fn new() -> Budget {
-        Budget {
-            named: None,
-            is_next: false,
-        }
-    }
-
-    /// Looks at one more word. Returns whether it is `--split`, or the budget. The last one counts.
-    pub(crate) fn take(&mut self, rt: &HostRuntime, word: &str) -> Result<bool, Refusal> {
-        if self.is_next {
-            let Some(budget) = number_of_word(word) else {
-                return Err(no_budget(rt, word));
-            };
-            self.named = Some(budget);
-            self.is_next = false;
-            return Ok(true);
-        }
-        self.is_next = word == "--split";
-        Ok(self.is_next)
-    }
-
-    /// The words ended. Returns the budget, if there is one.
-    pub(crate) fn end(&self, rt: &HostRuntime) -> Result<Option<NonZeroUsize>, Refusal> {
-        if self.is_next {
-            Err(no_budget(rt, ""))
-        } else {
-            Ok(self.named)
-        }
+/// The budget that a word names.
+pub(crate) fn budget_of(rt: &HostRuntime, word: &str) -> Result<NonZeroUsize, Refusal> {
+    match number_of_word(word) {
+        Some(budget) => Ok(budget),
+        None => Err(no_budget(rt, word)),
     }
 }
 
-// The word after `--split` names no budget, often because of a comma.
-fn no_budget(rt: &HostRuntime, word: &str) -> Refusal {
+/// The word after `--split` names no budget, often because of a comma.
+pub(crate) fn no_budget(rt: &HostRuntime, word: &str) -> Refusal {
     if word.contains(',') {
         wrong(
             rt,
@@ -62,18 +31,24 @@ fn no_budget(rt: &HostRuntime, word: &str) -> Refusal {
 }
 
 /// Writes how the budget is split, and gives the exit status.
-pub(crate) fn split_budget(rt: &HostRuntime, options: SplitOptions, seed: Seed) -> u8 {
+pub(crate) fn split_budget(
+    rt: &HostRuntime,
+    options: SplitOptions,
+    mut files: InputFiles<'_>,
+    seed: Seed,
+) -> u8 {
     let mut beginning = Vec::new(rt.alloc());
     let outcome = run_split(
         rt.alloc(),
         options,
-        &mut rt.stdin(),
+        &mut files,
         &mut rt.stdout(),
         seed,
         &mut beginning,
     );
     match &outcome {
         Ok(()) | Err(SplitFault::Other(Fault::Closed)) => {}
+        Err(SplitFault::Other(Fault::Reading)) => files.tell_trouble(),
         Err(fault) => tell_fault(rt, *fault, &beginning),
     }
     split_status(&outcome)

@@ -15,6 +15,8 @@ const FEW_HITS: u64 = 100;
 pub(crate) struct Watch<'h, R> {
     rt: &'h HostRuntime,
     inner: R,
+    // What the input is called.
+    name: &'static str,
     // When it told of progress last, where it is to tell.
     told: Option<Instant>,
     bytes: u64,
@@ -29,6 +31,7 @@ impl<'h, R: Read> Watch<'h, R> {
     pub(crate) fn new(
         rt: &'h HostRuntime,
         inner: R,
+        name: &'static str,
         progress: bool,
         options: &Options,
         seed: Seed,
@@ -41,6 +44,7 @@ impl<'h, R: Read> Watch<'h, R> {
         Watch {
             rt,
             inner,
+            name,
             told,
             bytes: 0,
             lines: Lines::new(rt, options, seed),
@@ -49,18 +53,24 @@ impl<'h, R: Read> Watch<'h, R> {
         }
     }
 
+    /// The reader.
+    pub(crate) fn inner(&self) -> &R {
+        &self.inner
+    }
+
     /// Tells what of the whole input looks wrong, where its report has so many misses at the greatest capacity.
     pub(crate) fn warn(&self, misses: Option<u64>, options: &Options) {
         let (lines, empty, returns) = (self.lines.count, self.lines.empty, self.lines.returns);
+        let name = self.name;
         if self.bytes == 0 {
-            self.say("standard input was empty, so there are no requests");
+            let _ = eprintln!(self.rt; "clru_mrc: {name} was empty, so there are no requests");
         }
         if self.is_packed {
-            self.say(
-                "standard input begins as gzip does: unpack it first, as in zcat FILE | clru_mrc",
+            let _ = eprintln!(self.rt;
+                "clru_mrc: {name} begins as gzip does: unpack it first, as in zcat FILE | clru_mrc"
             );
         } else if self.has_zero {
-            self.say("standard input has bytes of the value 0, as no text has");
+            let _ = eprintln!(self.rt; "clru_mrc: {name} has bytes of the value 0, as no text has");
         }
         if empty > 0 && empty < lines {
             let _ = eprintln!(self.rt;
