@@ -164,17 +164,21 @@ def written(pairs, steps):
     return "; ".join(said)
 
 
-class Cache:
-    """A list of pairs that answers the calls of a cache, the most recently used first."""
-
-    def __init__(self, memory, capacity, reserve, weigh):
-        self.places, self.weigh = Places(memory, capacity, reserve), weigh
-        self.capacity, self.pairs, self.hashed = capacity, [], 0
+class Subject:
+    """What answers a call by a function of its name, or else by `reads`."""
 
     def call(self, line):
         name, *words = line.split()
         answer = getattr(self, f"call_{name}", None)
         return answer(*words) if answer else self.reads(name, *words)
+
+
+class Cache(Subject):
+    """A list of pairs that answers the calls of a cache, the most recently used first."""
+
+    def __init__(self, memory, capacity, reserve, weigh):
+        self.places, self.weigh = Places(memory, capacity, reserve), weigh
+        self.capacity, self.pairs, self.hashed = capacity, [], 0
 
     def weight_of(self, value):
         return 0 if not self.weigh else len(value) if self.weigh == "length" else number_of(value)
@@ -479,10 +483,11 @@ def spans(requests):
         yield "new" if between is None else str(takes + sum(dict(between).values()))
 
 
-def curve_of(requests):
-    distinct = len(dict(requests))
-    misses = "".join(f" {missed([(key, 1) for key, _ in requests], capacity)[0]}" for capacity in range(1, distinct + 1))
-    return f"distinct {distinct}" + (f", misses{misses}" if distinct <= MOST else "")
+def curve_of(requests, times=None, limit=None):
+    """The curve of requests, under an idle limit where there is one."""
+    plain, distinct = [(key, 1) for key, _ in requests], len(dict(requests))
+    misses = [aged(plain, times or [0] * len(plain), capacity, limit, MAX)[0] for capacity in range(1, distinct + 1)] if distinct <= MOST else []
+    return f"distinct {distinct}" + (", misses" + "".join(f" {number}" for number in misses)) * (distinct <= MOST)
 
 
 def sized_curve_of(requests):
@@ -503,14 +508,6 @@ def soon(requests, times, limit):
     for (key, _), time in zip(requests, times):
         yield key in latest and time - latest[key] <= limit
         latest[key] = time
-
-
-def idle_curve_of(requests, times, limit):
-    """The curve of requests of which those that are not soon enough miss everywhere."""
-    distinct, plain = len(dict(requests)), [(key, 1) for key, _ in requests]
-    are_soon = list(soon(requests, times, limit))
-    misses = "".join(f" {sum(not (hit and early) for hit, early in zip(hits(plain, capacity), are_soon))}" for capacity in range(1, distinct + 1))
-    return f"distinct {distinct}" + (f", misses{misses}" if distinct <= MOST else "")
 
 
 def aged(requests, times, capacity, idle, age):
@@ -708,17 +705,12 @@ def as_json(report):
     return "\n".join([status, *("{" + ",".join(f'"{name}":{number}' for name, number in row) + "}" for row in members)])
 
 
-class List:
+class List(Subject):
     """A list of pairs of a place and an item, the front first. Free places are taken again, the last one that came free first."""
 
     def __init__(self, memory, capacity, reserve, limit):
         self.places = Places(memory, capacity, reserve or 0, NARROW if limit is None else limit, False, 24)
         self.entries, self.free, self.used = [], [], 0
-
-    def call(self, line):
-        name, *words = line.split()
-        answer = getattr(self, f"call_{name}", None)
-        return answer(*words) if answer else self.reads(name, *words)
 
     def index(self, place):
         return next((at for at, entry in enumerate(self.entries) if entry[0] == int(place)), None)
