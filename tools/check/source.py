@@ -1,4 +1,6 @@
-"""What the tools of this folder read of the crates' sources: files, functions, mutants, and the lines of scripts. It runs nothing itself."""
+"""What tools read of the repository: its crates, their files, functions and mutants, the lines of scripts, and other tools."""
+import importlib.machinery
+import importlib.util
 import pathlib
 import re
 
@@ -10,6 +12,30 @@ FUNCTION = re.compile(r"(\s*)(pub(?:\([a-z]+\))? )?(?:const |extern \"C\" )*fn (
 LEAVES_IMPL = re.compile(r"\}|(?:pub(?:\(\w+\))? )?(?:const |extern \"C\" )*(?:fn|trait|mod)\b")
 # The kinds of blocks that scripts have.
 SUBJECTS = re.findall(r'"(\w+)"', "".join((CRATES / name).read_text() for name in ("clru_rows/src/kinds.rt", "clru_script/src/main.rt")))
+
+
+def tool(path):
+    """A tool without a suffix, as a module."""
+    loader = importlib.machinery.SourceFileLoader(f"{path.name}_tool", str(path))
+    found = importlib.util.module_from_spec(importlib.util.spec_from_loader(loader.name, loader))
+    loader.exec_module(found)
+    return found
+
+
+def lines_by_name(text):
+    """The lines of a crates.txt, by the names of crates."""
+    return {found[1]: line for line in text.splitlines() if (found := re.match(r"(\w+).*:", line))}
+
+
+def with_below(names, lines):
+    """These crates and all that they are built on, the lowest first, as the lines have them."""
+    found, left = set(), list(names)
+    while left:
+        name = left.pop()
+        if name not in found:
+            found.add(name)
+            left += lines[name].partition(":")[2].split()
+    return [name for name in lines if name in found]
 
 
 def product(crates=CRATES):
