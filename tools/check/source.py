@@ -38,9 +38,9 @@ def with_below(names, lines):
     return [name for name in lines if name in found]
 
 
-def product(crates=CRATES):
+def product():
     """The folders of the product's crates."""
-    return [path for path in sorted(crates.iterdir()) if not NO_PRODUCT.fullmatch(path.name)]
+    return [path for path in sorted(CRATES.iterdir()) if not NO_PRODUCT.fullmatch(path.name)]
 
 
 def files(crate):
