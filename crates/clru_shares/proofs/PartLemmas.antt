@@ -1,10 +1,12 @@
 -- The rows of the first shares, and of one more; and texts of rows, one behind another.
-use Rattle.std.proofs.Common.{◌≡◌, ℕ, Bool, zero, suc, ◌+◌, ◌<◌, ◌≤◌, List, [], ◌∷◌, ◌++◌, length, map, min, take, get_or, append_assoc, append-nil, codes, refl, sym, ap, ◌∙◌, arith}
+use Rattle.std.proofs.Common.{◌≡◌, ℕ, Bool, cond, zero, suc, ◌+◌, ◌<◌, ◌≤◌, List, [], ◌∷◌, ◌++◌, length, map, min, take, get_or, append_assoc, append-nil, codes, refl, sym, ap, ◌∙◌, arith}
 use Rattle.std.specs.List.{sum_by}
+use Rattle.std.specs.Prelude.{◌==◌}
+use Rattle.std.proofs.lemmas.Bool.{ne_eqb}
 use Rattle.std.proofs.lemmas.List.{map-append, take_more}
-use Rattle.std.proofs.lemmas.List.Sums.{sum_by-append, sum_by-cons}
+use Rattle.std.proofs.lemmas.List.Sums.{sum_by-append, sum_by-cons, sum_by_more}
 use Rattle.clru_shares.specs.Forms.{Part, row_text, rows_text}
-use Rattle.clru_shares.specs.Passes.{part_of_row, part_of_share, parts_of_shares}
+use Rattle.clru_shares.specs.Passes.{part_of_row, part_of_share, parts_of_shares, unsampled_by}
 use Rattle.clru_shares.specs.Shares.{rows, together}
 use Rattle.clru_shares.specs.declared.share.Share.{Share}
 use Rattle.clru_shares.specs.declared.table.Row.{Row}
@@ -45,6 +47,20 @@ sum_more f made i row low is =
     ap (map part_of_row) (take_more made i row low) ∙ map-append part_of_row (take i made) (get_or made i row ∷ [])
     ∙ ap (λ x. before ++ part_of_row x ∷ []) (sym is) in
     omega (arith, ap (sum_by f) all, sum_by-append f before (part_of_row row ∷ []), sum_by-cons f (part_of_row row) [])
+
+-- the sum over one more share
+pub unsampled_more : {A : Type 0} (of : Share A → ℕ) (shares : List (Share A)) (i : ℕ) (share : Share A) → i < length shares
+    → share ≡ get_or shares i share
+    → sum_by (unsampled_by of) (take (i + 1) shares) ≡ sum_by (unsampled_by of) (take i shares) + unsampled_by of share
+unsampled_more of shares i share low is = sum_by_more (unsampled_by of) shares i share low
+    ∙ ap (λ x. sum_by (unsampled_by of) (take i shares) + unsampled_by of x) (sym is)
+
+-- what it adds if the sample has none of its requests, and if it has some
+pub unsampled_none : {A : Type 0} (of : Share A → ℕ) (share : Share A) → share.kept ≡ 0 → unsampled_by of share ≡ of share
+unsampled_none of share none = ap (λ k. cond (k == 0) (of share) 0) none
+
+pub unsampled_some : {A : Type 0} (of : Share A → ℕ) (share : Share A) → 0 < share.kept → unsampled_by of share ≡ 0
+unsampled_some of share some = ap (λ b. cond b (of share) 0) (ne_eqb share.kept 0 (λ none. omega (arith, some, none)))
 
 -- the rows of classes and of the three ways
 pub rows_laid : (b e o : Part) (ps qs : List Part) (requests size : ℕ) (best equal : List Part) (one : Part) → ps ≡ best → qs ≡ equal

@@ -1,17 +1,18 @@
 -- Curves with the same numbers have the same best splits; the rows of shares are those of their classes.
 use Rattle.std.proofs.Common.{◌≡◌, ℕ, zero, suc, ◌+◌, ◌-◌, ◌^◌, Bool, true, false, cond, List, [], ◌∷◌, ◌++◌, length, map, nat_lt, Option, Some, None, refl, sym, ap, ◌∙◌, subst, arith}
-use Rattle.std.specs.Prelude.{◌*◌, ◌/◌, codes, max, replicate, unwrap_or, IsSome}
-use Rattle.std.specs.List.{AllZip}
+use Rattle.std.specs.Prelude.{◌*◌, ◌/◌, ◌==◌, codes, max, replicate, unwrap_or, IsSome}
+use Rattle.std.specs.List.{AllZip, sum_by}
 use Rattle.std.specs.Map.{keys_of}
+use Rattle.std.proofs.lemmas.List.Sums.{sum_by-cons}
 use Rattle.clru_curve.specs.SizedCurves.{misses_within, missed_size_within}
 use Rattle.clru_curve.specs.Splits.{missed_at, AreParts, total_missed, IsBestSplit}
 use Rattle.clru_shares.specs.Classes.{of_class}
 use Rattle.clru_shares.specs.Forms.{Part}
 use Rattle.clru_shares.specs.LinePasses.{IsCurveBy}
-use Rattle.clru_shares.specs.Passes.{AreTimeless, HaveShares, IsShare, part_of_share, parts_of_shares}
+use Rattle.clru_shares.specs.Passes.{AreTimeless, HaveShares, IsShare, part_of_all, part_of_share, parts_of_shares, unsampled_by}
 use Rattle.clru_shares.specs.Sampled.{kept_in, told_missed, told_of, told_pair}
 use Rattle.clru_shares.specs.ShareCurves.{all_by, all_of_share, missed_by_curve, missed_of_share, missed_pair, sample_of}
-use Rattle.clru_shares.specs.Shares.{all_of, greatest_weight, missed_by, missed_in, missed_told, part_of, part_with, parts_of, rows, sized_misses_under, split_rows, step_for}
+use Rattle.clru_shares.specs.Shares.{all_of, greatest_weight, missed_by, missed_in, missed_told, one_for_all, part_of, part_with, parts_of, rows, sized_misses_under, split_rows, step_for, unsampled_of, with_missed}
 use Rattle.clru_shares.specs.Sizes.{size_in}
 use Rattle.clru_shares.specs.Times.{limit_of}
 use Rattle.clru_shares.proofs.Timeless.{missed_under_limit, sized_under_limit, under_limit}
@@ -124,6 +125,10 @@ module _ {A : Type 0} where
         ∙ ap (λ p. part_with name (told_of sample top c) (length requests) (size_in sizes (keys_of requests))
         (told_pair sample (length requests) (size_in sizes (keys_of requests)) p)) (pair_same idle kept is.timeless sizes share.curve is.curve c)
 
+no_size : (sizes : Bool) → size_in sizes [] ≡ 0
+no_size false = refl
+no_size true = refl
+
 module _ {A : Type 0} (sizes : Bool) (idle sample : Option ℕ) (requests : List (List ℕ × ℕ)) where
   pub shares_same : (names : List (List ℕ)) (shares : List (Share A)) → HaveShares sizes idle sample requests names shares
       → Same (missed_at all_of_share missed_of_share) (missed_at (all_of sizes) (missed_told sizes idle sample)) shares
@@ -158,10 +163,49 @@ module _ {A : Type 0} (sizes : Bool) (idle sample : Option ℕ) (requests : List
   shares_more (n ∷ names) [] name share have is = elim have [ ]
   shares_more (n ∷ names) (s ∷ shares) name share have is = (have.0, shares_more names shares name share have.1 is)
 
+  -- what a share adds to one cache for all is that of its class
+  unsampled_one : (f : List (List ℕ × ℕ) → ℕ) (of : Share A → ℕ) (name : List ℕ) (share : Share A) → f [] ≡ 0
+      → of share ≡ f (of_class name requests) → share.kept ≡ length (kept_in sample (of_class name requests))
+      → unsampled_by of share ≡ f (unsampled_of sample requests name)
+  unsampled_one f of name share none same numbered =
+      ap (λ k. cond (k == 0) (of share) 0) numbered ∙ ap (λ n. cond (length (kept_in sample (of_class name requests)) == 0) n 0) same
+      ∙ ends (length (kept_in sample (of_class name requests)) == 0)
+    where
+      ends : (b : Bool) → cond b (f (of_class name requests)) 0 ≡ f (cond b (of_class name requests) [])
+      ends true = refl
+      ends false = sym none
+
+  unsampled_all : (f : List (List ℕ × ℕ) → ℕ) (of : Share A → ℕ) → f [] ≡ 0
+      → ((name : List ℕ) (share : Share A) → IsShare sizes idle sample (of_class name requests) name share → of share ≡ f (of_class name requests))
+      → (names : List (List ℕ)) (shares : List (Share A)) → HaveShares sizes idle sample requests names shares
+      → sum_by (unsampled_by of) shares ≡ sum_by (λ name. f (unsampled_of sample requests name)) names
+  unsampled_all f of none same [] [] have = refl
+  unsampled_all f of none same [] (share ∷ shares) have = elim have [ ]
+  unsampled_all f of none same (name ∷ names) [] have = elim have [ ]
+  unsampled_all f of none same (name ∷ names) (share ∷ shares) have =
+      omega (
+        arith,
+        sum_by-cons (unsampled_by of) share shares,
+        sum_by-cons (λ name. f (unsampled_of sample requests name)) name names,
+        unsampled_one f of name share none (same name share have.0) have.0.numbered,
+        unsampled_all f of none same names shares have.1,
+      )
+
+  -- the row of one cache for all
+  pub all_row_same : (names : List (List ℕ)) (shares : List (Share A)) (all : Share A) (c : ℕ) → HaveShares sizes idle sample requests names shares
+      → IsShare sizes idle sample requests (codes "one for all") all → part_of_all shares all c ≡ one_for_all sizes idle sample requests names c
+  all_row_same names shares all c have is =
+      ap (λ n. with_missed n (sum_by (unsampled_by (λ share. share.size)) shares) (part_of_share all c))
+      (unsampled_all length (λ share. share.requests) refl (λ name share of. of.counted) names shares have)
+      ∙ ap (λ s. with_missed (sum_by (λ name. length (unsampled_of sample requests name)) names) s (part_of_share all c))
+      (unsampled_all (λ rs. size_in sizes (keys_of rs)) (λ share. share.size) (no_size sizes) (λ name share of. of.summed) names shares have)
+      ∙ ap (with_missed (sum_by (λ name. length (unsampled_of sample requests name)) names)
+      (sum_by (λ name. size_in sizes (keys_of (unsampled_of sample requests name))) names)) (row_same sizes idle sample requests (codes "one for all") all is c)
+
   -- the rows of the shares are those of their classes
   pub table_same : (names : List (List ℕ)) (shares : List (Share A)) (cs : List ℕ) → HaveShares sizes idle sample requests names shares
       → (budget step n size : ℕ) (one : Part) → step ≡ step_for budget → n ≡ length requests → size ≡ size_in sizes (keys_of requests)
-      → one ≡ part_of sizes idle sample requests (codes "one for all") budget
+      → one ≡ one_for_all sizes idle sample requests names budget
       → rows n size (parts_of_shares shares cs)
       (parts_of_shares shares (replicate (length shares) (budget / max 1 (length shares) / step * step))) one
       ≡ split_rows sizes idle sample budget requests names cs
@@ -174,6 +218,6 @@ module _ {A : Type 0} (sizes : Bool) (idle sample : Option ℕ) (requests : List
       ∙ ap (λ ps. rows n size (parts_of sizes idle sample requests names cs) ps one) (rows_same names shares (equal (length names) (step_for budget)) have)
       ∙ ap (λ p. rows n size (parts_of sizes idle sample requests names cs) (parts_of sizes idle sample requests names (equal (length names) (step_for budget))) p) is
       ∙ ap (λ k. rows k size (parts_of sizes idle sample requests names cs) (parts_of sizes idle sample requests names (equal (length names) (step_for budget)))
-      (part_of sizes idle sample requests (codes "one for all") budget)) counted
+      (one_for_all sizes idle sample requests names budget)) counted
       ∙ ap (λ s. rows (length requests) s (parts_of sizes idle sample requests names cs) (parts_of sizes idle sample requests names (equal (length names) (step_for budget)))
-      (part_of sizes idle sample requests (codes "one for all") budget)) summed
+      (one_for_all sizes idle sample requests names budget)) summed

@@ -1,6 +1,6 @@
 -- What the passes of classes have taken. No public clause cites it.
-use Rattle.std.specs.Prelude.{Option, ◌≡◌, ℕ, ◌+◌, ◌-◌, ◌^◌, ◌<◌, ◌≤◌, Bool, List, [], ◌∷◌, ◌++◌, length, map, true, false, bytes_eq, slice_index_or, Result, Ok, Err, None, Some, ⊤}
-use Rattle.std.specs.List.{All, AllZip, list_any}
+use Rattle.std.specs.Prelude.{Option, ◌≡◌, ◌==◌, ℕ, ◌+◌, ◌-◌, ◌^◌, ◌<◌, ◌≤◌, Bool, List, [], ◌∷◌, ◌++◌, length, map, true, false, bytes_eq, slice_index_or, Result, Ok, Err, None, Some, ⊤, if◌then◌else◌}
+use Rattle.std.specs.List.{All, AllZip, list_any, sum_by}
 use Rattle.std.specs.Map.{keys_of}
 use Rattle.clru_shares.specs.Classes.{AreAscending, IsBefore, has_class, most_classes, of_class, requests_of}
 use Rattle.clru_shares.specs.Forms.{Part}
@@ -8,7 +8,7 @@ use Rattle.clru_shares.specs.LinePasses.{HasTakenBy, IsCurveBy}
 use Rattle.clru_shares.specs.Places.{IsNoted}
 use Rattle.clru_shares.specs.Sampled.{kept_in, told_of, told_pair}
 use Rattle.clru_shares.specs.ShareCurves.{missed_pair, sample_of}
-use Rattle.clru_shares.specs.Shares.{part_with}
+use Rattle.clru_shares.specs.Shares.{part_with, with_missed}
 use Rattle.clru_shares.specs.Sizes.{is_sized, size_in}
 use Rattle.clru_shares.specs.Times.{AreTimed, limit_of, requests_in, rests_in}
 use Rattle.clru_shares.specs.declared.classes.Class.{Class}
@@ -92,6 +92,7 @@ pub record IsShare {A : Type 0} (sizes : Bool) (idle sample : Option ℕ) (reque
   pub is : share.name.items ≡ name
   pub counted : share.requests ≡ length requests
   pub summed : share.size ≡ size_in sizes (keys_of requests)
+  pub numbered : share.kept ≡ length (kept_in sample requests)
   pub curve : IsCurveBy sizes (limit_of idle) (kept_in sample requests) share.curve
   pub timeless : AreTimeless idle (kept_in sample requests)
   pub sampled : sample_of share ≡ sample
@@ -113,6 +114,15 @@ abbrev pub parts_of_shares : {A : Type 0} → List (Share A) → List ℕ → Li
 parts_of_shares [] cs = []
 parts_of_shares (share ∷ shares) [] = []
 parts_of_shares (share ∷ shares) (c ∷ cs) = part_of_share share c ∷ parts_of_shares shares cs
+
+-- a share's requests, or their size, if the sample has none of them
+abbrev pub unsampled_by : {A : Type 0} → (Share A → ℕ) → Share A → ℕ
+unsampled_by of share = if share.kept == 0 then of share else 0
+
+-- the row of all shares, where those of which the sample has no request miss all
+abbrev pub part_of_all : {A : Type 0} → List (Share A) → Share A → ℕ → Part
+part_of_all shares all c = with_missed (sum_by (unsampled_by (λ share. share.requests)) shares)
+    (sum_by (unsampled_by (λ share. share.size)) shares) (part_of_share all c)
 
 abbrev pub part_of_row : {A : Type 0} → Row A → Part
 part_of_row row = record {

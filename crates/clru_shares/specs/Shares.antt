@@ -1,5 +1,5 @@
 -- The table of a split. The numbers are those of the definitions of requests: no cache and no algorithm is in sight. Public clauses cite it.
-use Rattle.std.specs.Prelude.{◌≡◌, ℕ, zero, suc, ◌+◌, ◌*◌, ◌/◌, ◌≤◌, ◌<◌, nat_lt, ◌-◌, ◌^◌, Bool, true, false, List, [], ◌∷◌, ◌++◌, length, map, max, replicate, reverse, Option, Some, None, codes, bytes_eq, if◌then◌else◌}
+use Rattle.std.specs.Prelude.{◌≡◌, ℕ, zero, suc, ◌+◌, ◌*◌, ◌/◌, ◌≤◌, ◌<◌, ◌==◌, nat_lt, ◌-◌, ◌^◌, Bool, true, false, List, [], ◌∷◌, ◌++◌, length, map, max, min, replicate, reverse, Option, Some, None, codes, bytes_eq, if◌then◌else◌}
 use Rattle.std.specs.List.{All, sum_by}
 use Rattle.std.specs.Map.{keys_of}
 use Rattle.clru_curve.specs.IdlePasses.{idle_misses}
@@ -98,6 +98,31 @@ together name requests size parts = record {
   size = size;
 }
 
+-- these requests, if none of them is kept: what they miss is unknown
+abbrev pub unsampled_in : Option ℕ → List (List ℕ × ℕ) → List (List ℕ × ℕ)
+unsampled_in sample requests = if length (kept_in sample requests) == 0 then requests else []
+
+-- those of a class
+abbrev pub unsampled_of : Option ℕ → List (List ℕ × ℕ) → List ℕ → List (List ℕ × ℕ)
+unsampled_of sample requests name = unsampled_in sample (of_class name requests)
+
+-- a row where so many more requests of this size miss, at most all
+abbrev pub with_missed : ℕ → ℕ → Part → Part
+with_missed n s part = record {
+  name = part.name;
+  capacity = part.capacity;
+  misses = min (part.misses + n) part.requests;
+  requests = part.requests;
+  missed_size = min (part.missed_size + s) part.size;
+  size = part.size;
+}
+
+-- one cache for all classes. Those without a request that is kept miss all here, as they do in the other rows
+abbrev pub one_for_all : Bool → Option ℕ → Option ℕ → List (List ℕ × ℕ) → List (List ℕ) → ℕ → Part
+one_for_all sizes idle sample requests names c = with_missed (sum_by (λ name. length (unsampled_of sample requests name)) names)
+    (sum_by (λ name. size_in sizes (keys_of (unsampled_of sample requests name))) names)
+    (part_of sizes idle sample requests (codes "one for all") c)
+
 -- as much for each class, in whole steps
 abbrev pub equal_part : ℕ → ℕ → ℕ
 equal_part budget classes = budget / max 1 classes / step_for budget * step_for budget
@@ -112,7 +137,7 @@ abbrev pub split_rows : Bool → Option ℕ → Option ℕ → ℕ → List (Lis
 split_rows sizes idle sample budget requests names capacities = rows (length requests) (size_in sizes (keys_of requests))
     (parts_of sizes idle sample requests names capacities)
     (parts_of sizes idle sample requests names (replicate (length names) (equal_part budget (length names))))
-    (part_of sizes idle sample requests (codes "one for all") budget)
+    (one_for_all sizes idle sample requests names budget)
 
 -- the table of a best split of the budget among the classes of these lines, in a form: by keys, or by size, where each line has one and
 -- the budget has room for each that is kept. Under an idle limit each begins with a time, and a reuse after more than the limit is a first

@@ -193,6 +193,7 @@ fn text_for<S: BuildHasher + Copy, A: Allocator + Copy>(
         requests: passes.requests,
         size: passes.size,
         sample: options.sample,
+        kept: passes.kept,
         curve: curve_of(alloc, &passes.all)?,
     };
     let SplitOptions {

@@ -22,6 +22,9 @@ pub(crate) struct Share<A: Allocator> {
     pub(crate) requests: usize,
     pub(crate) size: usize,
     pub(crate) sample: Option<NonZeroUsize>,
+
+    /// How many of the requests the sample has.
+    pub(crate) kept: usize,
     pub(crate) curve: LineCurve<A>,
 }
 
@@ -88,6 +91,7 @@ fn share_of<A: Allocator + Copy>(
         requests: class.requests,
         size: class.size,
         sample,
+        kept: class.kept,
         curve: curve_of(alloc, &class.pass)?,
     })
 }

@@ -1,8 +1,8 @@
 //! The rows of the table.
-ghost use Rattle.std.specs.Prelude.{◌≡◌, ◌*◌, ◌/◌, length, map, max, replicate, IfOk};
+ghost use Rattle.std.specs.Prelude.{◌≡◌, ◌*◌, ◌/◌, ◌-◌, ◌^◌, length, map, max, min, replicate, IfOk};
 ghost use Rattle.std.specs.Int.NonZero.{non_zero_usize_get};
 ghost use Rattle.std.specs.List.{sum_by};
-ghost use Rattle.clru_shares.specs.Passes.{part_of_row, part_of_share, parts_of_shares, parts_of_table};
+ghost use Rattle.clru_shares.specs.Passes.{part_of_all, part_of_row, part_of_share, parts_of_shares, parts_of_table, unsampled_by};
 ghost use Rattle.clru_shares.specs.Sampled.{told_pair};
 ghost use Rattle.clru_shares.specs.ShareCurves.{missed_pair, sample_of};
 ghost use Rattle.clru_shares.specs.Shares.{rows, together};
@@ -63,14 +63,14 @@ pub(crate) fn table_of<A: Allocator + Copy>(
     ensures by_size { IfOk result (λ table. table.by_size ≡ by_size) }
     ensures rows { IfOk result (λ table. parts_of_table table ≡ rows all.now.requests all.now.size (parts_of_shares shares.now capacities.now)
         (parts_of_shares shares.now (replicate (length shares.now) (budget / max 1 (length shares.now)
-        / non_zero_usize_get step * non_zero_usize_get step))) (part_of_share all.now budget)) }
+        / non_zero_usize_get step * non_zero_usize_get step))) (part_of_all shares.now all.now budget)) }
 {
     let capacity_of_each = equal_capacities(alloc, budget, step, shares.len())?;
     let parts = rows_of(alloc, shares, capacities)?;
     let equal_parts = rows_of(alloc, shares, &capacity_of_each)?;
     let best = together_of(alloc, b"best split", &parts, all.requests, all.size)?;
     let equal = together_of(alloc, b"equal parts", &equal_parts, all.requests, all.size)?;
-    let one = row_of(alloc, all, budget)?;
+    let one = row_of_all(alloc, shares, all, budget)?;
     Ok(Table {
         by_size,
         budget: whole.get(),
@@ -112,6 +112,38 @@ fn rows_of<A: Allocator + Copy>(
         made.push(row_of(alloc, &shares[index], capacities[index])?)?;
     }
     Ok(made)
+}
+
+// The row of one cache for all shares. Those without a line of the sample miss all in the other rows, and so they do here.
+fn row_of_all<A: Allocator + Copy>(
+    alloc: A,
+    shares: &[Share<A>],
+    all: &Share<A>,
+    capacity: usize,
+) -> Result<Row<A>, AllocError>
+    ensures { IfOk result (λ row. part_of_row row ≡ part_of_all shares.now all.now capacity) }
+{
+    let (requests, size) = unsampled_of(shares);
+    let mut row = row_of(alloc, all, capacity)?;
+    row.misses = row.misses.saturating_add(requests).min(row.requests);
+    row.missed_size = row.missed_size.saturating_add(size).min(row.size);
+    Ok(row)
+}
+
+// The requests of shares without a line of the sample, and their size. They are some of all requests, so the sums do not pass the bound.
+fn unsampled_of<A: Allocator>(shares: &[Share<A>]) -> (usize, usize)
+    ensures requests { result.0 ≡ min (2 ^ 64 - 1) (sum_by (unsampled_by (λ share. share.requests)) shares.now) }
+    ensures size { result.1 ≡ min (2 ^ 64 - 1) (sum_by (unsampled_by (λ share. share.size)) shares.now) }
+{
+    let mut requests: usize = 0;
+    let mut size: usize = 0;
+    for share in shares {
+        if share.kept == 0 {
+            requests = requests.saturating_add(share.requests);
+            size = size.saturating_add(share.size);
+        }
+    }
+    (requests, size)
 }
 
 fn row_of<A: Allocator + Copy>(

@@ -8,14 +8,14 @@ use Rattle.clru_curve.specs.Splits.{IsBestSplit}
 use Rattle.clru_text.proofs.ResultLemmas.{ok_map}
 use Rattle.clru_shares.specs.Classes.{of_class}
 use Rattle.clru_shares.specs.Forms.{IsTextOf}
-use Rattle.clru_shares.specs.Passes.{IsShare, name_of, part_of_share, parts_of_table}
+use Rattle.clru_shares.specs.Passes.{IsShare, name_of, part_of_all, parts_of_table}
 use Rattle.clru_shares.specs.Sampled.{kept_in, part_in}
 use Rattle.clru_shares.specs.ShareCurves.{all_of_share, missed_of_share}
 use Rattle.clru_shares.specs.Shares.{all_of, missed_told, split_rows, step_for}
 use Rattle.clru_shares.specs.Sizes.{size_in}
 use Rattle.clru_shares.specs.Times.{limit_of, requests_in, rests_in}
 use Rattle.clru_shares.specs.declared.share.Share.{Share}
-use Rattle.clru_shares.proofs.ShareLemmas.{best_same, row_same, shares_same, table_same}
+use Rattle.clru_shares.proofs.ShareLemmas.{all_row_same, best_same, shares_same, table_same}
 use Rattle.clru_shares.proofs.TakenClasses.{names_are}
 use Rattle.clru_shares.proofs.TimedLines.{as_many_requests, as_many_rests, keys_are_rests}
 use Rattle.clru_shares.proofs.Timeless.{timeless_kept, timeless_lines}
@@ -33,11 +33,12 @@ returns g c lines has have room =
     let shares = c.args.shares.now in let cs = c.in_ok-capacities.capacities.items in
     let budget = c.part_in-budget.result in let step = step_for budget in
     let all = all_of_share {A = g.row.A.Denot} in let missed = missed_of_share {A = g.row.A.Denot} in
-    let whole : Share g.row.A.Denot = record { name = c.in_ok-from_slice.field-0; requests = passes.requests; size = passes.size; sample = c.args.options.sample; curve = c.in_ok-curve_of.field-0 } in
+    let whole : Share g.row.A.Denot = record { name = c.in_ok-from_slice.field-0; requests = passes.requests; size = passes.size; sample = c.args.options.sample; kept = passes.kept; curve = c.in_ok-curve_of.field-0 } in
     let whole_is : IsShare sizes idle sample requests (codes "one for all") whole = record {
       is = c.in_ok-from_slice.ensures.items;
       counted = counted;
       summed = summed;
+      numbered = taken.numbered;
       curve = c.in_ok-curve_of.ensures sizes (limit_of idle) kept taken.all;
       timeless = timeless_kept idle sample requests timeless;
       sampled = refl;
@@ -47,8 +48,8 @@ returns g c lines has have room =
     let best : IsBestSplit all missed step budget shares cs = subst (λ s. IsBestSplit all missed s budget shares cs) c.step_of-step.ensures
     c.in_ok-capacities.ensures.best in
     let rows : parts_of_table c.in_ok-table.table ≡ split_rows sizes idle sample (part_in sample whole_budget) requests names cs = c.in_ok-table.ensures.rows ∙ rw c.deref.ensures.value
-    (table_same sizes idle sample requests names shares cs have budget (non_zero_usize_get c.step_of-step.result) passes.requests passes.size (part_of_share whole budget)
-    c.step_of-step.ensures counted summed (row_same sizes idle sample requests (codes "one for all") whole whole_is budget))
+    (table_same sizes idle sample requests names shares cs have budget (non_zero_usize_get c.step_of-step.result) passes.requests passes.size (part_of_all shares whole budget)
+    c.step_of-step.ensures counted summed (all_row_same sizes idle sample requests names shares whole budget have whole_is))
     ∙ ap (λ b. split_rows sizes idle sample b requests names cs) parted in
     ok_map c.text_of.result (λ text is. record {
       names = names;

@@ -20,6 +20,7 @@ returns g c sizes idle requests timeless is =
       is = c.in_ok-from_slice.ensures.items ∙ c.deref.ensures.value;
       counted = is.counted ∙ ap (λ l. length l) keys ∙ length-keys_of (of_class name requests);
       summed = is.summed ∙ ap (size_in sizes) keys;
+      numbered = is.numbered ∙ ap (λ l. length l) (class_kept sample name requests);
       curve = subst (λ rs. IsCurveBy sizes (limit_of idle) rs c.in_ok-curve_of.field-0) (class_kept sample name requests)
           (c.in_ok-curve_of.ensures sizes (limit_of idle) (of_class name (kept_in sample requests)) is.taken);
       timeless = timeless_kept idle sample (of_class name requests) (timeless_class idle name requests timeless);
