@@ -12,6 +12,10 @@ const MOST: usize = 4096;
 /// Fewer lines than this are no log, and what looks odd with them is not told.
 pub(crate) const FEW: u64 = 1000;
 
+const MILLISECONDS_OF_1980: u64 = 315_532_800_000;
+
+const MILLISECONDS_OF_2200: u64 = 7_258_118_400_000;
+
 /// What is noted of the lines.
 #[derive(Drop)]
 pub(crate) struct Lines {
@@ -39,6 +43,10 @@ pub(crate) struct Lines {
     // The number of the first line without a size, or without a time.
     odd_number: u64,
     odd: Vec<u8>,
+    // The latest time, in millionths; how many were before the one of their line before, and by how much at most.
+    time: usize,
+    pub(crate) back: u64,
+    pub(crate) most_back: usize,
 }
 
 impl Lines {
@@ -69,6 +77,9 @@ impl Lines {
             leader: Leader::new(rt.alloc()),
             odd_number: 0,
             odd: Vec::new(rt.alloc()),
+            time: 0,
+            back: 0,
+            most_back: 0,
         }
     }
 
@@ -213,9 +224,21 @@ impl Lines {
     #[inline(never)]
     fn note_timed(&mut self, line: &[u8]) -> bool {
         match split_time(line) {
-            Some((_, rest)) => !self.have_sizes || self.note_size(rest),
+            Some((time, rest)) => {
+                if time < self.time {
+                    self.note_back(self.time.saturating_sub(time));
+                }
+                self.time = time;
+                !self.have_sizes || self.note_size(rest)
+            }
             None => false,
         }
+    }
+
+    #[inline(never)]
+    fn note_back(&mut self, by: usize) {
+        self.back = self.back.saturating_add(1);
+        self.most_back = self.most_back.max(by);
     }
 
     // Whether this begins with a size. (its value is computed only where it is used)
@@ -235,6 +258,11 @@ impl Lines {
             self.size = self.size.saturating_add(size_at(line) as u64);
         }
         true
+    }
+
+    /// Whether the last time looks like one in milliseconds since 1970, between 1980 and 2200.
+    pub(crate) fn have_milliseconds(&self) -> bool {
+        (MILLISECONDS_OF_1980..MILLISECONDS_OF_2200).contains(&(self.time as u64 / 1_000_000))
     }
 
     /// How many lines the report counts.
@@ -350,6 +378,9 @@ pub(crate) fn instead_of_time(line: &[u8]) -> &'static str {
         (None, _) => ", which is empty",
         (Some(first), _) if !first.is_ascii_digit() => ", where no digit stands first",
         _ if points > 1 => ", where the number has a second point",
+        (_, Some(b' ')) if points == 0 && (16..20).contains(&figures) => {
+            ", where the number is too great: divide micro- or nanoseconds"
+        }
         (_, Some(b'\t')) => ", where a tab stands in place of the blank",
         (_, Some(b' ')) => ", where the number is too great or has too many digits",
         (_, None) => ", where nothing follows the number",

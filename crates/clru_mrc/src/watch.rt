@@ -82,6 +82,7 @@ impl<'h, R: Read> Watch<'h, R> {
                 "clru_mrc: {returns} of {lines} lines end with a carriage return, which is a part of their keys"
             );
         }
+        self.warn_of_times(options);
         self.warn_of_misses(misses, options);
         self.warn_of_sizes(options);
         if let Some((count, line)) = self.lines.most_of_all() {
@@ -90,6 +91,22 @@ impl<'h, R: Read> Watch<'h, R> {
                     "clru_mrc: {count} of {lines} requests or more are for one key, {key}"
                 );
             }
+        }
+    }
+
+    fn warn_of_times(&self, options: &Options) {
+        let (back, lines) = (self.lines.back, self.lines.count);
+        if back > 0 && self.lines.are_many() {
+            let most = self.lines.most_back;
+            let (whole, part) = (most / 1_000_000, most % 1_000_000);
+            let _ = eprintln!(self.rt;
+                "clru_mrc: {back} of {lines} times go backwards, by up to {whole}.{part:06}: pass files oldest first"
+            );
+        }
+        if has_limit(options) && self.lines.have_milliseconds() {
+            self.say(
+                "times look like milliseconds since 1970, and so a limit counts milliseconds: for 10m write 600000",
+            );
         }
     }
 
