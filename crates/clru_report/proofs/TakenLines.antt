@@ -1,5 +1,5 @@
 -- What a pass knows that has taken lines: one more line, and the curve.
-use Rattle.std.proofs.Common.{◌≡◌, Bool, ℕ, ◌+◌, List, None, [], ◌∷◌, ◌++◌, IsNone, IsSome, Option, map, length, reverse, take, Some, refl, sym, ap, ◌∙◌, subst}
+use Rattle.std.proofs.Common.{◌≡◌, Bool, ℕ, ◌+◌, List, None, [], ◌∷◌, ◌++◌, IsNone, is_some, IsSome, Option, map, length, reverse, take, Some, refl, sym, ap, ◌∙◌, subst}
 use Rattle.std.specs.Prelude.{bytes_eq, IsSomeAnd}
 use Rattle.std.specs.List.{slice_get}
 use Rattle.std.proofs.lemmas.Grind.{reverse_onto}
@@ -26,6 +26,17 @@ one_more : {A : Type 0} (lines : List (List ℕ)) (past : List (OwnedKey A)) (ke
     → map line_of (reverse past) ≡ lines → map line_of (reverse (key ∷ past)) ≡ lines ++ line_of key ∷ []
 one_more lines past key shown =
     ap (map line_of) (reverse_onto past key []) ∙ map-append line_of (reverse past) (key ∷ []) ∙ ap (λ ls. ls ++ line_of key ∷ []) shown
+
+-- what is there was asked for
+pub asked_foresight : {A : Type 0} (least : Bool) (past : List (OwnedKey A)) (later : Option (List ℕ)) → HasForesight least past later
+    → is_some later ≡ least
+asked_foresight least past None h = sym h
+asked_foresight least past (Some later) h = sym h.0
+
+pub asked_floor : {A : Type 0} (w : List ℕ → ℕ) (floored : Bool) (past : List (OwnedKey A)) (reused : Option Reused)
+    → HasFloorPass w floored past reused → is_some reused ≡ floored
+asked_floor w floored past None h = sym h
+asked_floor w floored past (Some reused) h = sym h.0
 
 -- what is asked for beside the pass took these lines
 module _ {A : Type 0} (lines : List (List ℕ)) (past : List (OwnedKey A)) (shown : map line_of (reverse past) ≡ lines) where

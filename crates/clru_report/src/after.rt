@@ -16,10 +16,11 @@ use crate::capacities::{capacities_for, usual_capacities};
 use crate::faithful::ByKeys;
 use crate::knees::table_with_knees;
 use crate::line_pass::LinePass;
+use crate::reading::read_keys;
 use crate::rows::{Row, rows_at};
 use crate::text::{Counts, text_by_keys};
 use clru_curve::MissCurve;
-use clru_text::{LineBuffer, Options, OwnedKey, ReadError};
+use clru_text::{Options, OwnedKey, ReadError, TakesLines};
 use std::alloc::{AllocError, Allocator};
 use std::hash::BuildHasher;
 use std::io::Read;
@@ -60,25 +61,57 @@ fn curves_around<R: Read, S: BuildHasher + Drop, A: Allocator + Copy>(
     ensures { IfOk result (λ found. ReadWhole (R.remaining reader.old) (R.remaining reader.new)
         (λ input. AreCurvesAround (non_zero_usize_get after) input found.0 found.1 found.2 found.3)) }
 {
-    let mut pass = LinePass::new(alloc, hash_builder);
-    let mut head = None;
-    let mut buffer = LineBuffer::new(alloc);
-    let mut key = OwnedKey(Vec::new(alloc));
-    let mut requests = 0;
-    'lines: while buffer.read_line(reader, &mut key.0)? {
-        if requests == after.get() {
-            let Ok(curve) = pass.curve(alloc) else {
-                return Err(ReadError::Memory);
+    let mut lines = LinesAround {
+        alloc,
+        after,
+        pass: LinePass::new(alloc, hash_builder),
+        head: None,
+    };
+    let (requests, bytes) = read_keys(alloc, reader, &mut lines)?;
+    let LinesAround {
+        alloc: _,
+        after: _,
+        pass,
+        head,
+    } = lines;
+    Ok((pass.into_curve(), head, requests, bytes))
+}
+
+/// Hands all lines to a pass, and keeps the curve of the first ones if others follow.
+#[derive(Drop)]
+struct LinesAround<S: BuildHasher, A: Allocator + Copy> {
+    alloc: A,
+    after: NonZeroUsize,
+    pass: LinePass<S, A>,
+    head: Option<MissCurve<A>>,
+}
+
+// It refuses no line.
+impl<S: BuildHasher, A: Allocator + Copy> TakesLines<ReadError, A> for LinesAround<S, A> {
+    ghost use Rattle.clru_report.specs.LinePasses.{HasTakenLines};
+
+    ghost since = { λ start lines now. (now.after ≡ start.after) × HasTakenLines lines now.pass
+        × IsHead (non_zero_usize_get now.after) lines now.head };
+
+    ghost refused = { λ start lines reason now. false ≡ true };
+
+    fn take_line(
+        &mut self,
+        line: &OwnedKey<A>,
+        number: usize,
+        behind: &[u8],
+    ) -> Result<Result<(), ReadError>, AllocError> {
+        if number - 1 == self.after.get() {
+            let Ok(curve) = self.pass.curve(self.alloc) else {
+                return Err(AllocError);
             };
-            head = Some(curve);
+            self.head = Some(curve);
         }
-        let Ok(_) = pass.take(&key, buffer.buffer()) else {
-            return Err(ReadError::Memory);
-        };
-        requests += 1;
+        match self.pass.take(line, behind) {
+            Ok(_) => Ok(Ok(())),
+            Err(_) => Err(AllocError),
+        }
     }
-    let curve = pass.into_curve();
-    Ok((curve, head, requests, buffer.bytes_read()))
 }
 
 // The rows of the counted requests, and the knees of their usual table.

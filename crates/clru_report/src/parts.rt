@@ -2,7 +2,7 @@
 //!
 //! A request that is not the first for its line in its part hits as it does in the part alone. The first ones hit as they do behind the
 //! latest requests of the parts before. So of a part it is enough to know its curve, its first and its latest requests.
-ghost use Rattle.std.specs.Prelude.{◌≡◌, ℕ, ◌+◌, ◌^◌, ◌<◌, List, ◌++◌, length, bytes_eq, is_some, IfOk, IfSome, OnOk, string_bytes};
+ghost use Rattle.std.specs.Prelude.{◌≡◌, ℕ, ◌+◌, ◌^◌, ◌<◌, true, false, List, ◌++◌, length, bytes_eq, is_some, IfOk, IfSome, OnOk, string_bytes};
 ghost use Rattle.clru_model.specs.Parts.{firsts, lasts};
 ghost use Rattle.clru_text.specs.Lines.{lines_of};
 ghost use Rattle.clru_text.specs.Whole.{ReadWhole};
@@ -12,14 +12,13 @@ ghost use Rattle.clru_report.specs.Report.{IsReport};
 
 use crate::faithful::misses_by_keys;
 use crate::line_pass::LinePass;
-use crate::pass::take_lines;
+use crate::reading::read_keys;
 use crate::report::{asks_for_floor, asks_for_least, text_of_all};
 use clru_curve::{MissCurve, NoMemory};
-use clru_text::{Options, ReadError, Sample};
+use clru_text::{Options, OwnedKey, ReadError, Sample, TakesLines};
 use std::alloc::{AllocError, Allocator};
 use std::hash::BuildHasher;
 use std::io::Read;
-use std::num::NonZeroUsize;
 
 /// What is known of a part of a log.
 #[derive(Drop)]
@@ -49,7 +48,7 @@ pub fn part_of<R: Read, S: BuildHasher + Drop, A: Allocator + Copy>(
         × IsPart (lines_of input) part.requests part.curve part.firsts.items part.lasts.items)) }
 {
     let mut pass = LinePass::new(alloc, hash_builder);
-    let (requests, bytes) = take_all(alloc, &mut pass, reader)?;
+    let (requests, bytes) = read_keys(alloc, reader, &mut pass)?;
     let Ok(firsts) = pass.firsts(alloc) else {
         return Err(ReadError::Memory);
     };
@@ -65,18 +64,25 @@ pub fn part_of<R: Read, S: BuildHasher + Drop, A: Allocator + Copy>(
     })
 }
 
-/// Takes all lines of a reader, and returns how many lines and bytes there are.
-fn take_all<R: Read, S: BuildHasher, A: Allocator + Copy>(
-    alloc: A,
-    pass: &mut LinePass<S, A>,
-    reader: &mut R,
-) -> Result<(usize, usize), ReadError>
-    requires { (before : List (List ℕ)) × HasTakenLines before pass.old }
-    ensures { (before : List (List ℕ)) → HasTakenLines before pass.old → IfOk result (λ found.
-        ReadWhole (R.remaining reader.old) (R.remaining reader.new) (λ input. (found.0 ≡ length (lines_of input))
-        × (found.1 ≡ length input) × HasTakenLines (before ++ lines_of input) pass.new)) }
-{
-    take_lines(alloc, NonZeroUsize::MIN, pass, &mut None, &mut None, reader)
+// It refuses no line.
+impl<S: BuildHasher, A: Allocator + Copy> TakesLines<ReadError, A> for LinePass<S, A> {
+    // Those before are there too.
+    ghost since = { λ start lines now. ((before : List (List ℕ)) × HasTakenLines before start)
+        × ((before : List (List ℕ)) → HasTakenLines before start → HasTakenLines (before ++ lines) now) };
+
+    ghost refused = { λ start lines reason now. false ≡ true };
+
+    fn take_line(
+        &mut self,
+        line: &OwnedKey<A>,
+        _number: usize,
+        behind: &[u8],
+    ) -> Result<Result<(), ReadError>, AllocError> {
+        match self.take(line, behind) {
+            Ok(_) => Ok(Ok(())),
+            Err(_) => Err(AllocError),
+        }
+    }
 }
 
 /// What is known of lines: their curve, and the latest request for each distinct one.
@@ -121,7 +127,7 @@ fn take_text<S: BuildHasher, A: Allocator + Copy>(
         → OnOk result (HasTakenLines (before ++ lines_of text.now) pass.new) }
 {
     let mut left = text;
-    match take_all(alloc, pass, &mut left) {
+    match read_keys(alloc, &mut left, pass) {
         Ok(_) => Ok(()),
         Err(_) => Err(NoMemory),
     }

@@ -1,5 +1,5 @@
 //! The one reading of a log whose lines are keys.
-ghost use Rattle.std.specs.Prelude.{◌≡◌, ℕ, List, Bool, [], ◌∷◌, ◌++◌, length, map, reverse, IfOk, OnOk};
+ghost use Rattle.std.specs.Prelude.{◌≡◌, ℕ, List, Bool, true, false, [], ◌∷◌, ◌++◌, is_some, map, reverse, IfOk, OnOk};
 ghost use Rattle.std.specs.Int.NonZero.{non_zero_usize_get};
 ghost use Rattle.clru_model.specs.Requests.{IsLatestOf};
 ghost use Rattle.clru_text.specs.Keys.{line_of, same_line};
@@ -12,9 +12,10 @@ ghost use Rattle.clru_report.specs.Passes.{HasFloorPass, HasForesight, IsCurveOf
 
 use crate::line_pass::LinePass;
 use crate::prefetch::lines_ahead;
+use crate::reading::read_keys;
 use clru_curve::MissCurve;
 use clru_least::{Floor, FloorPass, ForesightPass};
-use clru_text::{LineBuffer, OwnedKey, ReadError, is_kept};
+use clru_text::{OwnedKey, ReadError, TakesLines, is_kept};
 use std::alloc::{AllocError, Allocator};
 use std::hash::BuildHasher;
 use std::io::Read;
@@ -47,22 +48,60 @@ pub(crate) fn curve_by_keys<R: Read, S: BuildHasher + Drop, A: Allocator + Copy>
         × IsForeseenFor A least (kept_of (non_zero_usize_get one_in) (lines_of input)) found.1
         × IsFloorFor floored (kept_of (non_zero_usize_get one_in) (lines_of input)) found.2)) }
 {
-    let mut pass = LinePass::new(alloc, hash_builder);
-    let mut foresight = foresight_for(alloc, least);
-    let mut reuses = floor_pass_for(alloc, floored);
-    let (requests, bytes) = take_lines(
-        alloc,
+    let mut lines = KeptLines {
         one_in,
-        &mut pass,
-        &mut foresight,
-        &mut reuses,
-        reader,
-    )?;
+        pass: LinePass::new(alloc, hash_builder),
+        foresight: foresight_for(alloc, least),
+        reuses: floor_pass_for(alloc, floored),
+    };
+    let (requests, bytes) = read_keys(alloc, reader, &mut lines)?;
+    let KeptLines {
+        one_in: _,
+        pass,
+        foresight,
+        reuses,
+    } = lines;
     let curve = pass.into_curve();
     let Ok(floor) = floor_of(&reuses) else {
         return Err(ReadError::Memory);
     };
     Ok((curve, foresight, floor, requests, bytes))
+}
+
+/// Hands the lines that a sample keeps to a pass, and to a foresight and a pass for a floor if they are asked for.
+#[derive(Drop)]
+struct KeptLines<S: BuildHasher, A: Allocator + Copy> {
+    one_in: NonZeroUsize,
+    pass: LinePass<S, A>,
+    foresight: Option<ForesightPass<OwnedKey<A>, A>>,
+    reuses: Option<FloorPass<OwnedKey<A>, A>>,
+}
+
+// It refuses no line.
+impl<S: BuildHasher, A: Allocator + Copy> TakesLines<ReadError, A> for KeptLines<S, A> {
+    // What was there beside the pass at first is there.
+    ghost since = { λ start lines now. (now.one_in ≡ start.one_in)
+        × HasTakenFor (is_some start.foresight) (is_some start.reuses) (kept_of (non_zero_usize_get now.one_in) lines)
+        now.pass now.foresight now.reuses };
+
+    ghost refused = { λ start lines reason now. false ≡ true };
+
+    fn take_line(
+        &mut self,
+        line: &OwnedKey<A>,
+        _number: usize,
+        behind: &[u8],
+    ) -> Result<Result<(), ReadError>, AllocError> {
+        take_kept(
+            self.one_in,
+            &mut self.pass,
+            &mut self.foresight,
+            &mut self.reuses,
+            line,
+            behind,
+        )?;
+        Ok(Ok(()))
+    }
 }
 
 // The foresight that has taken no line, if it is asked for.
@@ -89,33 +128,6 @@ pub(crate) fn floor_pass_for<A: Allocator + Copy>(
         return None;
     }
     Some(FloorPass::new(alloc))
-}
-
-/// Takes the lines of a reader that a sample keeps, and returns how many lines and bytes it gives in all.
-pub(crate) fn take_lines<R: Read, S: BuildHasher, A: Allocator + Copy>(
-    alloc: A,
-    one_in: NonZeroUsize,
-    pass: &mut LinePass<S, A>,
-    foresight: &mut Option<ForesightPass<OwnedKey<A>, A>>,
-    reuses: &mut Option<FloorPass<OwnedKey<A>, A>>,
-    reader: &mut R,
-) -> Result<(usize, usize), ReadError>
-    requires { (least floored : Bool) × (before : List (List ℕ)) × HasTakenFor least floored before pass.old foresight.old reuses.old }
-    ensures { (least floored : Bool) (before : List (List ℕ)) → HasTakenFor least floored before pass.old foresight.old reuses.old
-        → IfOk result (λ found. ReadWhole (R.remaining reader.old) (R.remaining reader.new) (λ input. (found.0 ≡ length (lines_of input))
-        × (found.1 ≡ length input)
-        × HasTakenFor least floored (before ++ kept_of (non_zero_usize_get one_in) (lines_of input)) pass.new foresight.new reuses.new)) }
-{
-    let mut buffer = LineBuffer::new(alloc);
-    let mut key = OwnedKey(Vec::new(alloc));
-    let mut requests = 0;
-    'lines: while buffer.read_line(reader, &mut key.0)? {
-        let Ok(()) = take_kept(one_in, pass, foresight, reuses, &key, buffer.buffer()) else {
-            return Err(ReadError::Memory);
-        };
-        requests += 1;
-    }
-    Ok((requests, buffer.bytes_read()))
 }
 
 // The floor, if it is asked for.

@@ -1,12 +1,13 @@
-//! The loop over lines that begin with times, whatever is done at each.
+//! The loops over lines: that over keys, and that over lines that begin with times, whatever is done at each.
 ghost use Rattle.std.specs.Prelude.{◌≡◌, ◌+◌, true, false, List, ℕ, [], ◌∷◌, ◌++◌, length, IfErr, IfOk, OnOk};
 ghost use Rattle.clru_text.specs.Faults.{is_of_input, is_of_writing};
 ghost use Rattle.clru_text.specs.Lines.{lines_of};
+ghost use Rattle.clru_text.specs.Readings.{IsReadBy as IsReadKeys};
 ghost use Rattle.clru_text.specs.Whole.{ReadWhole};
 ghost use Rattle.clru_text.specs.declared.fault.Fault.{Fault};
 ghost use Rattle.clru_report.specs.Readings.{IsReadBy};
 
-use clru_text::{Fault, LineBuffer, read_fault};
+use clru_text::{Fault, LineBuffer, ReadError, read_fault};
 use std::alloc::Allocator;
 use std::io::Read;
 
@@ -65,5 +66,21 @@ pub(crate) fn read_lines<R: Read, T: TakesLines, A: Allocator + Copy>(
     match refused {
         None => Ok((requests, buffer.bytes_read())),
         Some(fault) => Err(fault),
+    }
+}
+
+/// Hands each line of a reader to a taker that refuses none. Returns how many lines and bytes there are.
+pub(crate) fn read_keys<R: Read, T: clru_text::TakesLines<ReadError, A>, A: Allocator + Copy>(
+    alloc: A,
+    reader: &mut R,
+    taker: &mut T,
+) -> Result<(usize, usize), ReadError>
+    requires { T.since taker.old [] taker.old }
+    ensures taken { IfOk result (λ found. ReadWhole (R.remaining reader.old) (R.remaining reader.new)
+        (λ input. IsReadKeys (T.since taker.old) input taker.new found.0 found.1)) }
+{
+    match clru_text::read_lines(alloc, reader, taker) {
+        Ok(read) => read,
+        Err(error) => Err(error),
     }
 }
