@@ -1,26 +1,27 @@
 -- Of lines of which some are kept, and of the curve of the kept ones: one more line, and the report.
-use Rattle.std.proofs.Common.{◌≡◌, ℕ, ◌+◌, ◌-◌, ◌/◌, ◌^◌, nat_le, Bool, false, true, Option, List, [], ◌∷◌, ◌++◌, IsSome, map, min, length, reverse, ap, ◌∙◌, subst, arith}
+use Rattle.std.proofs.Common.{◌≡◌, ℕ, ◌+◌, ◌-◌, ◌/◌, ◌^◌, nat_le, Bool, false, true, Option, None, Some, List, [], ◌∷◌, ◌++◌, append_assoc, append-nil, IsSome, map, min, length, reverse, refl, sym, ap, ◌∙◌, subst, arith}
 use Rattle.std.specs.Prelude.{◌&&◌, bytes_eq}
 use Rattle.std.specs.List.{filter}
-use Rattle.std.proofs.lemmas.List.Elements.{All-push, All-weaker}
+use Rattle.std.proofs.lemmas.List.Elements.{All-nil, All-push, All-weaker}
+use Rattle.std.proofs.lemmas.List.{length-append}
 use Rattle.std.proofs.lemmas.List.Sums.{sum_by-append, sum_by-cons}
 use Rattle.clru_curve.specs.SizedCurves.{CurveBySize, IsSizedCurveOf}
-use Rattle.clru_least.specs.Reuses.{Reused}
 use Rattle.clru_model.specs.Requests.{distinct}
-use Rattle.clru_text.specs.Samples.{kept_of, times}
+use Rattle.clru_text.specs.Samples.{times}
 use Rattle.clru_text.specs.Sizes.{size_of_line, weight_of_line}
+use Rattle.clru_text.specs.declared.fault.Fault.{Fault}
 use Rattle.clru_text.specs.declared.options.Form.{Form}
 use Rattle.clru_text.specs.declared.options.Form.TheVariants.{Table, Json, Picture, Summary}
 use Rattle.clru_text.specs.declared.options.Options.{Options}
 use Rattle.clru_text.proofs.Samples.{all_kept}
-use Rattle.clru_report.specs.Passes.{AreFloorsFor, AreRowsOf, IsRowOf, IsSizedCurveOfKept, capacities_on, distinct_in, has_rows}
+use Rattle.clru_report.specs.LineFaults.{fault_from}
+use Rattle.clru_report.specs.Passes.{AreFloorsFor, AreRowsOf, IsOfLines, IsRowOf, IsSizedCurveOfKept, capacities_on, distinct_in, has_rows}
 use Rattle.clru_report.specs.SampleTables.{IsSampledTable, IsSampledText}
-use Rattle.clru_report.specs.SizedLinePasses.{HasTaken, HasTakenOf}
+use Rattle.clru_report.specs.SizedLines.{AddUpTo, HaveFault}
 use Rattle.clru_report.specs.SizedReport.{AreSizedRows, IsInFormBySizeOfSample, IsSizedRow, IsSizedTableOfSample, distinct_size, sized_capacities_of_sample, summary_by_size_of_sample}
 use Rattle.clru_report.specs.SizedTables.{sized_summary_text, sized_table_text}
 use Rattle.clru_report.specs.Sizes.{greatest_size, size_of_lines}
 use Rattle.clru_report.specs.declared.sized.floors.Floors.{Floors}
-use Rattle.clru_report.specs.declared.sized.line_pass.SizedLinePass.{SizedLinePass}
 use Rattle.clru_report.specs.declared.sized.rows.SizedRow.{SizedRow}
 use Rattle.clru_report.proofs.SizedReports.{capacities_are, distinct_are, greatest_is, row_is, usual_is}
 
@@ -39,15 +40,29 @@ size_more lines rest line = omega (
   sum_by-cons (λ x. 1 + weight_of_line x) line rest,
 )
 
-pub counted_more : {S A H : Type 0} (floored : Bool) (n : ℕ) (lines : List (List ℕ)) (line : List ℕ) (size more : ℕ)
-    (pass next : SizedLinePass S A H) (reused after : Option Reused)
-    → HasTakenOf floored n lines size pass reused → IsSome (size_of_line line) → more ≡ size + (1 + weight_of_line line)
-    → HasTaken floored (kept_of n (lines ++ line ∷ [])) next after → HasTakenOf floored n (lines ++ line ∷ []) more next after
-counted_more floored n lines line size more pass next reused after of sized sum taken = record {
-  sizes = All-push (λ l. IsSome (size_of_line l)) lines line of.sizes sized;
-  summed = omega (arith, sum, of.summed, size_more lines [] line);
-  taken = taken;
-}
+pub added_none : AddUpTo [] 0
+added_none = record { sizes = All-nil (λ line. IsSome (size_of_line line)); summed = refl; faults = λ rest. refl }
+
+module _ (lines : List (List ℕ)) (size : ℕ) (added : AddUpTo lines size) where
+  -- one more line, which has a size
+  pub added_more : (line : List ℕ) (more : ℕ) → IsSome (size_of_line line) → more ≡ size + (1 + weight_of_line line)
+      → ((rest : List (List ℕ)) → fault_from (length lines + 1) size (line ∷ rest) ≡ fault_from (length lines + 1 + 1) more rest)
+      → AddUpTo (lines ++ line ∷ []) more
+  added_more line more sized sum on = record {
+    sizes = All-push (λ l. IsSome (size_of_line l)) lines line added.sizes sized;
+    summed = omega (arith, sum, added.summed, size_more lines [] line);
+    faults = λ rest. ap (fault_from 1 0) (append_assoc lines (line ∷ []) rest) ∙ added.faults (line ∷ rest) ∙ on rest
+        ∙ ap (λ k. fault_from (k + 1) more rest) (sym (length-append lines (line ∷ [])));
+  }
+
+  -- or one with a fault, whatever follows
+  pub added_refused : (fault : Fault) (line : List ℕ) (rest : List (List ℕ)) → IsOfLines fault (lines ++ line ∷ rest)
+      → fault_from (length lines + 1) size (line ∷ rest) ≡ Some fault → HaveFault (lines ++ line ∷ rest) fault
+  added_refused fault line rest of next = (of, added.faults (line ∷ rest) ∙ next)
+
+  -- all of them have none
+  pub added_free : fault_from 1 0 lines ≡ None
+  added_free = ap (fault_from 1 0) (sym (append-nil lines)) ∙ added.faults []
 
 module _ (kept : List (List ℕ)) (curve : CurveBySize) (is : IsSizedCurveOf bytes_eq weight_of_line kept curve) where
   -- the capacities that the curve answers are those at which kept lines have rows

@@ -1,10 +1,8 @@
 -- What a pass knows that has taken lines with times and sizes: one more line, and what it shows.
-use Rattle.std.proofs.Common.{◌≡◌, ℕ, ◌+◌, ◌-◌, ◌≤◌, ◌^◌, true, false, nat_le, nat_lt, cond, Option, None, Some, List, [], ◌∷◌, ◌++◌, IsSome, is_some, append-nil, length, map, reverse, refl, sym, ap, ◌∙◌, subst, arith}
+use Rattle.std.proofs.Common.{◌≡◌, ℕ, ◌+◌, ◌-◌, ◌≤◌, nat_lt, cond, Option, None, Some, List, [], ◌∷◌, ◌++◌, IsSome, is_some, length, map, reverse, refl, sym, ap, ◌∙◌, subst, arith}
 use Rattle.std.specs.Prelude.{bytes_eq}
 use Rattle.std.specs.Map.{keys_of}
-use Rattle.std.specs.Option.{is_none, option_map_or}
-use Rattle.std.proofs.lemmas.List.{length-append, length-map, map-append}
-use Rattle.std.proofs.lemmas.List.Elements.{All-nil, All-push}
+use Rattle.std.proofs.lemmas.List.{length-map, map-append}
 use Rattle.std.proofs.lemmas.List.Sums.{sum_by-cons}
 use Rattle.clru_curve.specs.SizedAgedPasses.{AgedPassBySize, IsSizedAgedPass, aged_missed_size, aged_misses_by_size}
 use Rattle.clru_curve.specs.SizedCurves.{CurveBySize, greatest_of, size_of_all}
@@ -13,9 +11,8 @@ use Rattle.clru_curve.proofs.SizeViews.{greatest-view, total-view}
 use Rattle.clru_curve.proofs.SizedIdleViews.{idle_curve-view, missed_size-view, sized_misses-view}
 use Rattle.clru_model.proofs.Cases.{split}
 use Rattle.clru_model.specs.Sizes.{total}
-use Rattle.clru_text.specs.Faults.{is_of_input, is_of_writing}
 use Rattle.clru_text.specs.Keys.{line_of, same_line}
-use Rattle.clru_text.specs.Sizes.{HaveSizes, size_of_line, weight_of_line}
+use Rattle.clru_text.specs.Sizes.{size_of_line, weight_of_line}
 use Rattle.clru_text.specs.TakenRequests.{HasTakenRequests}
 use Rattle.clru_text.specs.Times.{kept_requests, request_of, requests_of, rest_behind, rest_of_line, rests_of, time_of_line}
 use Rattle.clru_text.specs.declared.fault.Fault.{Fault}
@@ -23,20 +20,14 @@ use Rattle.clru_text.specs.declared.fault.Fault.TheVariants.{NoSize}
 use Rattle.clru_text.specs.declared.lines.OwnedKey.{OwnedKey}
 use Rattle.clru_text.proofs.Samples.{each_kept}
 use Rattle.clru_report.specs.Passes.{IsOfLines, weight_of_key}
-use Rattle.clru_report.specs.Refusals.{fault_from}
+use Rattle.clru_report.specs.LineFaults.{fault_from}
+use Rattle.clru_report.specs.SizedLines.{AddUpTo, HaveFault}
 use Rattle.clru_report.specs.SizedTimedPasses.{HasTakenSizedTimed}
 use Rattle.clru_report.specs.SizedReport.{distinct_size}
-use Rattle.clru_report.specs.Sizes.{greatest_size, size_of_lines}
-use Rattle.clru_report.specs.TimedPasses.{HasTakenTimed}
-use Rattle.clru_report.proofs.SizedSamples.{size_more}
+use Rattle.clru_report.specs.Sizes.{greatest_size}
+use Rattle.clru_report.proofs.SizedSamples.{added_more, added_none, added_refused}
 use Rattle.clru_report.proofs.TakenLines.{first_without}
 use Rattle.clru_report.proofs.TimedLines.{keys_taken, numbers_taken, timed_start}
-
--- the rests of one line more
-pub rests_more : (lines : List (List ℕ)) (line : List ℕ) (rest : List (List ℕ))
-    → rests_of (lines ++ line ∷ []) ++ rest ≡ rests_of lines ++ rest_of_line line ∷ rest
-rests_more [] line rest = refl
-rests_more (l ∷ ls) line rest = ap (λ rs. rest_of_line l ∷ rs) (rests_more ls line rest)
 
 -- one key in one is each of them
 pub whole_keys : (lines : List (List ℕ)) → keys_of (kept_requests 1 (requests_of lines)) ≡ rests_of lines
@@ -49,60 +40,37 @@ whole_keys (line ∷ lines) =
 -- a pass that has taken no line
 pub sized_start : {A P : Type 0} (Is : List (OwnedKey A × ℕ) → P → Type 0) (n : ℕ) (pass : P) → Is [] pass
     → HasTakenSizedTimed Is n [] 0 pass
-sized_start Is n pass is = record {
-  timed = timed_start Is n pass is;
-  sizes = All-nil (λ line. IsSome (size_of_line line));
-  summed = refl;
-  faults = λ rest. refl;
-}
+sized_start Is n pass is = record { timed = timed_start Is n pass is; added = added_none }
 
-module _ {A P : Type 0} (Is : List (OwnedKey A × ℕ) → P → Type 0) (n : ℕ) (lines : List (List ℕ)) (size : ℕ) (pass : P)
-    (has : HasTakenSizedTimed Is n lines size pass) where
+module _ (lines : List (List ℕ)) (size number : ℕ) (added : AddUpTo (rests_of lines) size) (counted : number ≡ length lines + 1) where
+  rests_counted : number ≡ length (rests_of lines) + 1
+  rests_counted = omega (arith, counted, length-map lines rest_of_line)
+
   -- one line more, which has a size
-  pub sized_more : (line : List ℕ) (more : ℕ) (next : P) → HasTakenTimed Is n (lines ++ line ∷ []) next
-      → IsSome (size_of_line (rest_of_line line)) → more ≡ size + (1 + weight_of_line (rest_of_line line))
-      → ((rest : List (List ℕ)) → fault_from (length lines + 1) size (rest_of_line line ∷ rest) ≡ fault_from (length lines + 1 + 1) more rest)
-      → HasTakenSizedTimed Is n (lines ++ line ∷ []) more next
-  sized_more line more next timed sized sum on = record {
-    timed = timed;
-    sizes = subst HaveSizes (sym (map-append rest_of_line lines (line ∷ [])))
-        (All-push (λ l. IsSome (size_of_line l)) (rests_of lines) (rest_of_line line) has.sizes sized);
-    summed = omega (
-      arith,
-      sum,
-      has.summed,
-      size_more (rests_of lines) [] (rest_of_line line),
-      ap size_of_lines (map-append rest_of_line lines (line ∷ [])),
-    );
-    faults = λ rest. ap (fault_from 1 0) (rests_more lines line rest) ∙ has.faults (rest_of_line line ∷ rest) ∙ on rest
-        ∙ ap (λ k. fault_from (k + 1) more rest) (sym (length-append lines (line ∷ [])));
-  }
+  pub sized_more : (line : List ℕ) (more : ℕ) → IsSome (size_of_line (rest_of_line line))
+      → more ≡ size + (1 + weight_of_line (rest_of_line line))
+      → ((rest : List (List ℕ)) → fault_from number size (rest_of_line line ∷ rest) ≡ fault_from (number + 1) more rest)
+      → AddUpTo (rests_of (lines ++ line ∷ [])) more
+  sized_more line more sized sum on =
+      subst (λ ls. AddUpTo ls more) (sym (map-append rest_of_line lines (line ∷ [])))
+      (added_more (rests_of lines) size added (rest_of_line line) more sized sum
+      (λ rest. ap (λ k. fault_from k size (rest_of_line line ∷ rest)) (sym rests_counted) ∙ on rest ∙ ap (λ k. fault_from (k + 1) more rest) rests_counted))
 
   -- lines with one that has a fault have it
   pub sized_refused : (fault : Fault) (line : List ℕ) (rest : List (List ℕ)) → IsOfLines fault (rests_of lines ++ rest_of_line line ∷ rests_of rest)
-      → (is_of_input fault ≡ true → fault_from (length lines + 1) size (rest_of_line line ∷ rests_of rest) ≡ Some fault)
-      → IsOfLines fault (rests_of (lines ++ line ∷ rest))
-      × (is_of_input fault ≡ true → fault_from 1 0 (rests_of (lines ++ line ∷ rest)) ≡ Some fault)
+      → fault_from number size (rest_of_line line ∷ rests_of rest) ≡ Some fault → HaveFault (rests_of (lines ++ line ∷ rest)) fault
   sized_refused fault line rest of next =
-      let same = map-append rest_of_line lines (line ∷ rest) in (
-        subst (IsOfLines fault) (sym same) of,
-        λ i. ap (fault_from 1 0) same ∙ has.faults (rest_of_line line ∷ rests_of rest) ∙ next i,
-      )
+      subst (λ ls. HaveFault ls fault) (sym (map-append rest_of_line lines (line ∷ rest)))
+      (added_refused (rests_of lines) size added fault (rest_of_line line) (rests_of rest) of
+      (ap (λ k. fault_from k size (rest_of_line line ∷ rests_of rest)) (sym rests_counted) ∙ next))
 
   -- one without a time has no size
-  pub untimed_refused : (line : List ℕ) (rest : List (List ℕ)) (number : ℕ) → time_of_line line ≡ None → number ≡ length lines + 1
-      → IsOfLines (NoSize number) (rests_of (lines ++ line ∷ rest))
-      × (is_of_input (NoSize number) ≡ true → fault_from 1 0 (rests_of (lines ++ line ∷ rest)) ≡ Some (NoSize number))
-  untimed_refused line rest number none counted =
+  pub untimed_refused : (line : List ℕ) (rest : List (List ℕ)) → time_of_line line ≡ None → HaveFault (rests_of (lines ++ line ∷ rest)) (NoSize number)
+  untimed_refused line rest none =
       let bare : rest_of_line line ≡ [] = ap (rest_behind line) none in
       sized_refused (NoSize number) line rest
-      (first_without (rests_of lines) (rests_of rest) (rest_of_line line) number has.sizes (omega (arith, counted, length-map lines rest_of_line))
-      (ap (λ l. is_some (size_of_line l)) bare))
-      (λ i. ap (λ l. fault_from (length lines + 1) size (l ∷ rests_of rest)) bare ∙ ap (λ k. Some (NoSize k)) (sym counted))
-
-  -- all of them have none
-  pub sized_free : fault_from 1 0 (rests_of lines) ≡ None
-  sized_free = ap (fault_from 1 0) (sym (append-nil (rests_of lines))) ∙ has.faults []
+      (first_without (rests_of lines) (rests_of rest) (rest_of_line line) number added.sizes rests_counted (ap (λ l. is_some (size_of_line l)) bare))
+      (ap (λ l. fault_from number size (l ∷ rests_of rest)) bare)
 
 pub sized_idle_taken : {A P : Type 0} (Is : List (OwnedKey A × ℕ) → P → Type 0) (idle : ℕ) (requests : List (List ℕ × ℕ)) (pass : P) (curve : CurveBySize)
     → HasTakenRequests Is requests pass
@@ -159,10 +127,3 @@ greatest_in_all weight (x ∷ ks) =
     split (nat_lt (greatest_of weight ks) (weight x))
     (λ u. rw u (omega (arith, all)))
     (λ v. rw v (omega (arith, all, ih)))
-
--- the fault of a line is none of writing
-pub unwritten_line : (line : List ℕ) (n size : ℕ) (fault : Fault) → fault_from n size (line ∷ []) ≡ Some fault → is_of_writing fault ≡ false
-unwritten_line line n size fault is =
-    let writes = λ (o : Option Fault). option_map_or is_of_writing o false in
-    ap writes (sym is) ∙ split (is_none (size_of_line line)) (λ t. rw t refl)
-    (λ f. rw f (split (nat_le (2 ^ 64) (size + (1 + weight_of_line line))) (λ t. rw t refl) (λ g. rw g refl)))

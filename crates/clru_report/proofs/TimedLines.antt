@@ -14,12 +14,15 @@ use Rattle.clru_model.proofs.Views.{distinct-map, map-reverse}
 use Rattle.clru_model.proofs.Spans.{total_weightless}
 use Rattle.clru_model.specs.Requests.{distinct}
 use Rattle.clru_model.specs.Sizes.{total}
+use Rattle.clru_text.specs.Faults.{is_of_writing}
 use Rattle.clru_text.specs.Keys.{line_of, same_line}
 use Rattle.clru_text.specs.Samples.{is_kept}
 use Rattle.clru_text.specs.TakenRequests.{HasTakenRequest, HasTakenRequests, shown_of}
 use Rattle.clru_text.specs.Times.{HaveTimes, kept_requests, request_of, requests_of, rest_of_line, time_of_line}
+use Rattle.clru_text.specs.declared.fault.Fault.{Fault}
+use Rattle.clru_text.specs.declared.fault.Fault.TheVariants.{BadCapacity, Memory, Reading, Writing, Closed, NoSize, TooLarge, TooSmall}
 use Rattle.clru_text.specs.declared.lines.OwnedKey.{OwnedKey}
-use Rattle.clru_report.specs.Timed.{IsFirstUntimed}
+use Rattle.clru_report.specs.Timed.{IsFirstUntimed, IsUntimed}
 use Rattle.clru_report.specs.TimedPasses.{HasTakenTimed}
 use Rattle.clru_report.proofs.TakenLines.{next_of, take_before}
 
@@ -146,3 +149,14 @@ first_untimed lines rest line n timed counted none = (
   subst HaveTimes (sym (take_before lines (line ∷ rest))) timed,
   subst (λ o. IsSomeAnd o (λ l. IsNone (time_of_line l))) (sym (next_of lines rest line)) none,
 )
+
+-- why lines have no times is no fault of writing
+pub untimed_unwritten : (lines : List (List ℕ)) (fault : Fault) → IsUntimed fault lines → is_of_writing fault ≡ false
+untimed_unwritten lines BadCapacity why = refl
+untimed_unwritten lines Memory why = refl
+untimed_unwritten lines Reading why = refl
+untimed_unwritten lines Writing why = absurd why
+untimed_unwritten lines Closed why = absurd why
+untimed_unwritten lines (NoSize n) why = refl
+untimed_unwritten lines TooLarge why = refl
+untimed_unwritten lines (TooSmall n) why = refl

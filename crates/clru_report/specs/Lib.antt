@@ -15,7 +15,6 @@ pub mod Passes
 pub mod PlainRows
 pub mod RatioLaws
 pub mod Ratios
-pub mod Readings
 pub mod Refusals
 pub mod Report
 pub mod RowLaws
@@ -25,6 +24,7 @@ pub mod Scans
 pub mod SizedAfter
 pub mod SizedAfterPasses
 pub mod SizedLinePasses
+pub mod SizedLines
 pub mod SizedReport
 pub mod SizedTables
 pub mod SizedTimed

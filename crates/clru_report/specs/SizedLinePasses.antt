@@ -1,5 +1,5 @@
 -- What a pass over lines by size has taken. No public clause cites it.
-use Rattle.std.specs.Prelude.{◌≡◌, ℕ, Bool, Option, List, length, map, reverse, bytes_eq}
+use Rattle.std.specs.Prelude.{◌≡◌, Bool, Option, ℕ, List, length, map, reverse, bytes_eq}
 use Rattle.std.specs.Map.{lookup}
 use Rattle.clru_curve.specs.SizedPositionPasses.{IsSizedPositionPass}
 use Rattle.clru_least.specs.Reuses.{Reused}
@@ -10,7 +10,7 @@ use Rattle.clru_text.specs.Sizes.{HaveSizes, weight_of_line}
 use Rattle.clru_text.specs.declared.lines.OwnedKey.{OwnedKey}
 use Rattle.clru_curve.specs.Seen.{timeless}
 use Rattle.clru_report.specs.Passes.{HasFloorPass, weight_of_key}
-use Rattle.clru_report.specs.Sizes.{size_of_lines}
+use Rattle.clru_report.specs.SizedLines.{AddUpTo}
 use Rattle.clru_report.specs.declared.sized.line_pass.SizedLinePass.{SizedLinePass}
 
 module _ {S A H : Type 0} where
@@ -28,8 +28,7 @@ module _ {S A H : Type 0} where
     pub taken : IsSizedLinePass past pass
     pub floored : HasFloorPass weight_of_line floor past reused
 
-  -- of these lines, each of which has a size, and which have that size together, the passes took those that a sample keeps
+  -- of these lines, which have no fault, the passes took those that a sample keeps
   pub record HasTakenOf (floor : Bool) (n : ℕ) (lines : List (List ℕ)) (size : ℕ) (pass : SizedLinePass S A H) (reused : Option Reused) : Type 0 where
-    pub sizes : HaveSizes lines
-    pub summed : size ≡ size_of_lines lines
+    pub added : AddUpTo lines size
     pub taken : HasTaken floor (kept_of n lines) pass reused

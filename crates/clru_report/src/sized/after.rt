@@ -1,5 +1,5 @@
 //! The report by size of the requests behind the first ones, which fill the cache and are not counted.
-ghost use Rattle.std.specs.Prelude.{◌≡◌, ℕ, ◌+◌, List, None, Some, true, false, nat_lt, length, IfOk, IfErr, IfSome, OnOk, string_bytes};
+ghost use Rattle.std.specs.Prelude.{◌≡◌, ℕ, ◌+◌, List, None, Some, true, false, nat_lt, length, is_some, IfOk, IfErr, IfSome, OnOk, string_bytes};
 ghost use Rattle.std.specs.Int.NonZero.{non_zero_usize_get};
 ghost use Rattle.std.specs.Str.{bytes_eq};
 ghost use Rattle.clru_curve.specs.SizedCurves.{IsSizedCurveOf};
@@ -13,16 +13,18 @@ ghost use Rattle.clru_report.specs.Passes.{IsOfLines, IsSettled};
 ghost use Rattle.clru_report.specs.Refusals.{fault_from, fault_of, IsRefusedFor, names_below};
 ghost use Rattle.clru_report.specs.SizedAfter.{AreSizedCounted, counted_size, IsReportBySizeAfter, IsSizedPictureAfter, IsSizedTableAfter};
 ghost use Rattle.clru_report.specs.SizedAfterPasses.{AreSizedCurvesAround, IsCountedOf, IsSizedHead, IsTooSmall, StaysBetween};
+ghost use Rattle.clru_report.specs.SizedLinePasses.{HasTakenOf};
+ghost use Rattle.clru_report.specs.SizedLines.{HaveFault};
 
 use super::behind::{capacities_behind, sized_rows_behind, usual_table_behind};
-use super::line_pass::SizedLinePass;
-use super::pass::count_and_take;
+use super::pass::SizedLines;
 use super::rows::{SizedRow, sized_rows_at, sized_rows_for};
 use super::sample::Totals;
 use super::table::sized_table_of;
 use crate::picture::picture_behind;
+use crate::reading::read_all;
 use clru_curve::SizedCurve;
-use clru_text::{Capacities, Fault, Form, LineBuffer, Options, OwnedKey, read_fault};
+use clru_text::{Capacities, Fault, Form, Options, OwnedKey, TakesLines};
 use std::alloc::{AllocError, Allocator};
 use std::hash::BuildHasher;
 use std::io::Read;
@@ -67,47 +69,54 @@ fn sized_curves_around<R: Read, S: BuildHasher + Drop, A: Allocator + Copy>(
         (λ input. IsOfLines fault (lines_of input) × (fault_from 1 0 (lines_of input) ≡ Some fault))) }
     ensures fault { IfErr result (λ fault. is_of_writing fault ≡ false) }
 {
-    let one_in = NonZeroUsize::MIN;
-    let mut pass = SizedLinePass::new(alloc, hash_builder);
-    let mut reuses = None;
-    let mut head = None;
-    let mut buffer = LineBuffer::new(alloc);
-    let mut key = OwnedKey(Vec::new(alloc));
-    let mut requests = 0;
-    let mut size = 0;
-    let mut refused = None;
-    'lines: loop {
-        match buffer.read_line(reader, &mut key.0) {
-            Ok(true) => {}
-            Ok(false) => break,
-            Err(error) => return Err(read_fault(error)),
-        }
-        if requests == after.get() {
-            let Ok(curve) = pass.curve(alloc) else {
-                return Err(Fault::Memory);
-            };
-            head = Some(curve);
-        }
-        requests += 1;
-        if refused.is_none() {
-            match count_and_take(
-                one_in,
-                &mut pass,
-                &mut reuses,
-                &key,
-                requests,
-                size,
-                buffer.buffer(),
-            ) {
-                Ok(more) => size = more,
-                Err(Fault::Memory) => return Err(Fault::Memory),
-                Err(fault) => refused = Some(fault),
-            }
-        }
+    let mut around = SizedAround {
+        alloc,
+        after,
+        lines: SizedLines::new(alloc, NonZeroUsize::MIN, false, hash_builder),
+        head: None,
+    };
+    read_all(alloc, reader, &mut around)?;
+    let SizedAround {
+        alloc: _,
+        after: _,
+        lines,
+        head,
+    } = around;
+    match lines.into_curve() {
+        Ok((curve, _, _)) => Ok((curve, head)),
+        Err(_) => Err(Fault::Memory),
     }
-    match refused {
-        None => Ok((pass.into_curve(), head)),
-        Some(fault) => Err(fault),
+}
+
+/// Takes all lines, and keeps the curve of the first ones if others follow.
+#[derive(Drop)]
+struct SizedAround<S: BuildHasher, A: Allocator + Copy> {
+    alloc: A,
+    after: NonZeroUsize,
+    lines: SizedLines<S, A>,
+    head: Option<SizedCurve<A>>,
+}
+
+impl<S: BuildHasher, A: Allocator + Copy> TakesLines<Fault, A> for SizedAround<S, A> {
+    ghost since = { λ start lines now. (now.after ≡ start.after) × (now.lines.one_in ≡ start.lines.one_in)
+        × (non_zero_usize_get now.lines.one_in ≡ 1) × IsSizedHead (non_zero_usize_get now.after) lines now.head
+        × HasTakenOf (is_some start.lines.reuses) (non_zero_usize_get now.lines.one_in) lines now.lines.size now.lines.pass now.lines.reuses };
+
+    ghost refused = { λ start lines fault now. HaveFault lines fault };
+
+    fn take_line(
+        &mut self,
+        line: &OwnedKey<A>,
+        number: usize,
+        behind: &[u8],
+    ) -> Result<Result<(), Fault>, AllocError> {
+        if number - 1 == self.after.get() {
+            let Ok(curve) = self.lines.pass.curve(self.alloc) else {
+                return Err(AllocError);
+            };
+            self.head = Some(curve);
+        }
+        self.lines.take_line(line, number, behind)
     }
 }
 

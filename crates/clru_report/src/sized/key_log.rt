@@ -1,19 +1,20 @@
 //! A log by the numbers of its keys, each with the greatest size it came with.
-ghost use Rattle.std.specs.Prelude.{◌≡◌, ◌<◌, ◌+◌, ℕ, Bool, true, false, List, [], ◌∷◌, ◌++◌, length, map, max, None, Some, IsSome, IfErr, IfOk, OnOk, if◌then◌else◌, slice_index, slice_set};
+ghost use Rattle.std.specs.Prelude.{◌≡◌, ◌<◌, ◌+◌, ℕ, Bool, true, false, List, [], ◌∷◌, ◌++◌, length, map, max, None, Some, IfErr, IfOk, OnOk, if◌then◌else◌, slice_index, slice_set};
 ghost use Rattle.std.specs.HashMap.{get};
 ghost use Rattle.clru_text.specs.Faults.{is_of_input, is_of_writing};
 ghost use Rattle.clru_text.specs.Keys.{line_of, same_line};
 ghost use Rattle.clru_text.specs.Lines.{lines_of};
-ghost use Rattle.clru_text.specs.Sizes.{HaveSizes, size_of_line, tail_of_line, weight_of_line};
+ghost use Rattle.clru_text.specs.Sizes.{tail_of_line, weight_of_line};
 ghost use Rattle.clru_text.specs.Whole.{ReadWhole};
 ghost use Rattle.clru_report.specs.KeyLogs.{HasKeys, HasNoted, lines_in, tails_of};
 ghost use Rattle.clru_report.specs.OneSize.{with_greatest};
 ghost use Rattle.clru_report.specs.Passes.{IsOfLines};
 ghost use Rattle.clru_report.specs.Refusals.{fault_from};
-ghost use Rattle.clru_report.specs.Sizes.{size_of_lines};
+ghost use Rattle.clru_report.specs.SizedLines.{AddUpTo, HaveFault};
 
 use super::pass::count_line;
-use clru_text::{Fault, LineBuffer, OwnedKey, read_fault, tail_of};
+use crate::reading::read_all;
+use clru_text::{Fault, OwnedKey, TakesLines, tail_of};
 use std::alloc::{AllocError, Allocator};
 use std::collections::HashMap;
 use std::hash::BuildHasher;
@@ -49,68 +50,58 @@ pub(super) fn read_log<R: Read, S: BuildHasher + Drop, A: Allocator + Copy>(
         (λ input. IsOfLines fault (lines_of input) × (fault_from 1 0 (lines_of input) ≡ Some fault))) }
     ensures fault { IfErr result (λ fault. is_of_writing fault ≡ false) }
 {
-    let mut numbers = HashMap::with_hasher(alloc, hash_builder);
-    let mut log = KeyLog {
-        tails: Vec::new(alloc),
-        sizes: Vec::new(alloc),
-        requests: Vec::new(alloc),
+    let mut noted = NotedLines {
+        alloc,
+        numbers: HashMap::with_hasher(alloc, hash_builder),
+        log: KeyLog {
+            tails: Vec::new(alloc),
+            sizes: Vec::new(alloc),
+            requests: Vec::new(alloc),
+        },
+        tail: OwnedKey(Vec::new(alloc)),
+        size: 0,
     };
-    let mut buffer = LineBuffer::new(alloc);
-    let mut line = Vec::new(alloc);
-    let mut tail = OwnedKey(Vec::new(alloc));
-    let mut count = 0;
-    let mut size = 0;
-    let mut refused = None;
-    'lines: loop {
-        match buffer.read_line(reader, &mut line) {
-            Ok(true) => {}
-            Ok(false) => break,
-            Err(error) => return Err(read_fault(error)),
-        }
-        count += 1;
-        if refused.is_none() {
-            match count_and_note(alloc, &mut numbers, &mut log, &mut tail, &line, count, size) {
-                Ok(more) => size = more,
-                Err(Fault::Memory) => return Err(Fault::Memory),
-                Err(fault) => refused = Some(fault),
-            }
-        }
-    }
-    match refused {
-        None => Ok((log, buffer.bytes_read())),
-        Some(fault) => Err(fault),
-    }
+    let (_, bytes) = read_all(alloc, reader, &mut noted)?;
+    Ok((noted.log, bytes))
 }
 
-// Returns the size of all lines with one more, of this number, which is noted.
-fn count_and_note<S: BuildHasher, A: Allocator + Copy>(
+/// Notes lines, by the numbers of their keys. Adds up their sizes.
+#[derive(Drop)]
+struct NotedLines<S: BuildHasher, A: Allocator + Copy> {
     alloc: A,
-    numbers: &mut HashMap<OwnedKey<A>, usize, S, A>,
-    log: &mut KeyLog<A>,
-    tail: &mut OwnedKey<A>,
-    line: &[u8],
-    number: usize,
+    numbers: HashMap<OwnedKey<A>, usize, S, A>,
+    log: KeyLog<A>,
+    tail: OwnedKey<A>,
     size: usize,
-) -> Result<usize, Fault>
-    requires { (lines : List (List ℕ)) × HasNoted line_of lines (get same_line numbers.old) (tails_of log.old) log.old.sizes.items log.old.requests.items }
-    ensures noted { (lines : List (List ℕ)) → HasNoted line_of lines (get same_line numbers.old) (tails_of log.old) log.old.sizes.items log.old.requests.items
-        → OnOk result (HasNoted line_of (lines ++ line.now ∷ []) (get same_line numbers.new) (tails_of log.new) log.new.sizes.items log.new.requests.items) }
-    ensures sum { IfOk result (λ more. more ≡ size + (1 + weight_of_line line.now)) }
-    ensures sized { OnOk result (IsSome (size_of_line line.now)) }
-    ensures refused { (lines rest : List (List ℕ)) → HaveSizes lines → size ≡ size_of_lines lines
-        → number ≡ length lines + 1 → IfErr result (λ fault. IsOfLines fault (lines ++ line.now ∷ rest)) }
-    ensures next { (rest : List (List ℕ)) → IfOk result (λ more.
-        fault_from number size (line.now ∷ rest) ≡ fault_from (number + 1) more rest) }
-    ensures fault { (rest : List (List ℕ)) → IfErr result (λ fault. is_of_input fault ≡ true
-        → fault_from number size (line.now ∷ rest) ≡ Some fault) }
-{
-    let more = match count_line(line, number, size) {
-        Ok(more) => more,
-        Err(fault) => return Err(fault),
-    };
-    match note_line(alloc, numbers, log, tail, line, more - size) {
-        Ok(()) => Ok(more),
-        Err(_) => Err(Fault::Memory),
+}
+
+impl<S: BuildHasher, A: Allocator + Copy> TakesLines<Fault, A> for NotedLines<S, A> {
+    ghost since = { λ start lines now. AddUpTo lines now.size
+        × HasNoted line_of lines (get same_line now.numbers) (tails_of now.log) now.log.sizes.items now.log.requests.items };
+
+    ghost refused = { λ start lines fault now. HaveFault lines fault };
+
+    fn take_line(
+        &mut self,
+        line: &OwnedKey<A>,
+        number: usize,
+        _behind: &[u8],
+    ) -> Result<Result<(), Fault>, AllocError> {
+        let more = match count_line(&line.0, number, self.size) {
+            Ok(more) => more,
+            Err(fault) => return Ok(Err(fault)),
+        };
+        let size = more - self.size;
+        note_line(
+            self.alloc,
+            &mut self.numbers,
+            &mut self.log,
+            &mut self.tail,
+            &line.0,
+            size,
+        )?;
+        self.size = more;
+        Ok(Ok(()))
     }
 }
 

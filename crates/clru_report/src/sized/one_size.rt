@@ -11,13 +11,11 @@ ghost use Rattle.clru_report.specs.OneSize.{counted_lines, one_size};
 ghost use Rattle.clru_report.specs.Passes.{AreFloorsFor, IsOfLines, IsSettled, IsSizedCurveOfKept};
 ghost use Rattle.clru_report.specs.Refusals.{fault_from};
 
-use super::floors::{Floors, floors_of};
+use super::floors::Floors;
 use super::key_log::{KeyLog, read_log};
-use super::line_pass::SizedLinePass;
-use super::pass::{count_and_take, curve_by_size};
-use crate::pass::floor_pass_for;
+use super::pass::{SizedLines, curve_by_size};
 use clru_curve::SizedCurve;
-use clru_text::{Fault, OwnedKey};
+use clru_text::{Fault, OwnedKey, TakesLines};
 use std::alloc::{AllocError, Allocator};
 use std::fmt::Write;
 use std::hash::BuildHasher;
@@ -86,25 +84,26 @@ fn curve_of_log<S: BuildHasher + Drop, A: Allocator + Copy>(
         → IsOfLines fault (lines_in log.now) × (fault_from 1 0 (lines_in log.now) ≡ Some fault)) }
     ensures fault { IfErr result (λ fault. is_of_writing fault ≡ false) }
 {
-    let mut pass = SizedLinePass::new(alloc, hash_builder);
-    let mut reuses = floor_pass_for(alloc, floored);
+    let mut lines = SizedLines::new(alloc, one_in, floored, hash_builder);
     let mut digits = String::new(alloc);
     let mut key = OwnedKey(Vec::new(alloc));
-    let mut size = 0;
     for index in 0..log.requests.len() {
         let number = log.requests[index];
         let Ok(()) = write_line(&mut digits, &mut key, log.sizes[number], &log.tails[number]) else {
             return Err(Fault::Memory);
         };
-        match count_and_take(one_in, &mut pass, &mut reuses, &key, index + 1, size, &[]) {
-            Ok(more) => size = more,
+        let Ok(taken) = lines.take_line(&key, index + 1, &[]) else {
+            return Err(Fault::Memory);
+        };
+        match taken {
+            Ok(()) => {}
             Err(fault) => return Err(fault),
         }
     }
-    let Ok(floors) = floors_of(&reuses) else {
-        return Err(Fault::Memory);
-    };
-    Ok((pass.into_curve(), size, floors))
+    match lines.into_curve() {
+        Ok(found) => Ok(found),
+        Err(_) => Err(Fault::Memory),
+    }
 }
 
 // Makes the line of a size and what follows it.

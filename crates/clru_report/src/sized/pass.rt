@@ -1,6 +1,7 @@
 //! The one reading of a log whose lines are objects with their sizes.
-ghost use Rattle.std.specs.Prelude.{◌≡◌, ℕ, ◌+◌, Bool, true, false, List, [], ◌∷◌, ◌++◌, length, Some, IsSome, IfErr, IfOk, OnOk};
+ghost use Rattle.std.specs.Prelude.{◌≡◌, ℕ, ◌+◌, Bool, true, false, List, [], ◌∷◌, ◌++◌, bytes_eq, length, Some, is_some, IsSome, IfErr, IfOk, OnOk};
 ghost use Rattle.std.specs.Int.NonZero.{non_zero_usize_get};
+ghost use Rattle.clru_curve.specs.SizedCurves.{IsSizedCurveOf};
 ghost use Rattle.clru_text.specs.Faults.{is_of_input, is_of_writing};
 ghost use Rattle.clru_text.specs.Keys.{line_of};
 ghost use Rattle.clru_text.specs.Lines.{lines_of};
@@ -10,15 +11,17 @@ ghost use Rattle.clru_text.specs.Whole.{ReadWhole};
 ghost use Rattle.clru_report.specs.Passes.{AreFloorsFor, IsOfLines, IsSettled, IsSizedCurveOfKept};
 ghost use Rattle.clru_report.specs.Refusals.{fault_from};
 ghost use Rattle.clru_report.specs.SizedLinePasses.{HasTaken, HasTakenOf};
+ghost use Rattle.clru_report.specs.SizedLines.{HaveFault};
 ghost use Rattle.clru_report.specs.Sizes.{size_of_lines};
 
 use super::floors::{Floors, floors_of};
 use super::line_pass::SizedLinePass;
 use crate::pass::{floor_pass_for, note_reuse};
 use crate::prefetch::lines_ahead;
+use crate::reading::read_all;
 use clru_curve::SizedCurve;
 use clru_least::FloorPass;
-use clru_text::{Fault, LineBuffer, OwnedKey, is_kept, read_fault, size_of};
+use clru_text::{Fault, OwnedKey, TakesLines, is_kept, size_of};
 use std::alloc::{AllocError, Allocator};
 use std::hash::BuildHasher;
 use std::io::Read;
@@ -44,76 +47,86 @@ pub(super) fn curve_by_size<R: Read, S: BuildHasher + Drop, A: Allocator + Copy>
         (λ input. IsOfLines fault (lines_of input) × (fault_from 1 0 (lines_of input) ≡ Some fault))) }
     ensures fault { IfErr result (λ fault. is_of_writing fault ≡ false) }
 {
-    let mut pass = SizedLinePass::new(alloc, hash_builder);
-    let mut reuses = floor_pass_for(alloc, floored);
-    let mut buffer = LineBuffer::new(alloc);
-    let mut key = OwnedKey(Vec::new(alloc));
-    let mut requests = 0;
-    let mut size = 0;
-    let mut refused = None;
-    'lines: loop {
-        match buffer.read_line(reader, &mut key.0) {
-            Ok(true) => {}
-            Ok(false) => break,
-            Err(error) => return Err(read_fault(error)),
-        }
-        requests += 1;
-        if refused.is_none() {
-            match count_and_take(
-                one_in,
-                &mut pass,
-                &mut reuses,
-                &key,
-                requests,
-                size,
-                buffer.buffer(),
-            ) {
-                Ok(more) => size = more,
-                Err(Fault::Memory) => return Err(Fault::Memory),
-                Err(fault) => refused = Some(fault),
-            }
+    let mut lines = SizedLines::new(alloc, one_in, floored, hash_builder);
+    let (requests, bytes) = read_all(alloc, reader, &mut lines)?;
+    let Ok((curve, size, floors)) = lines.into_curve() else {
+        return Err(Fault::Memory);
+    };
+    Ok((curve, requests, size, bytes, floors))
+}
+
+/// Hands the lines that a sample keeps to a pass, and to a pass for a floor if it is asked for. Adds up the sizes of all lines.
+#[derive(Drop)]
+pub(super) struct SizedLines<S: BuildHasher, A: Allocator + Copy> {
+    pub(super) one_in: NonZeroUsize,
+    pub(super) pass: SizedLinePass<S, A>,
+    pub(super) reuses: Option<FloorPass<OwnedKey<A>, A>>,
+    pub(super) size: usize,
+}
+
+impl<S: BuildHasher, A: Allocator + Copy> SizedLines<S, A> {
+    /// No line yet.
+    pub(super) fn new(alloc: A, one_in: NonZeroUsize, floored: bool, hash_builder: S) -> Self
+        ensures taken { HasTakenOf (is_some result.reuses) (non_zero_usize_get result.one_in) [] result.size result.pass result.reuses }
+        ensures floored { is_some result.reuses ≡ floored }
+        ensures sample { result.one_in ≡ one_in }
+    {
+        SizedLines {
+            one_in,
+            pass: SizedLinePass::new(alloc, hash_builder),
+            reuses: floor_pass_for(alloc, floored),
+            size: 0,
         }
     }
-    match refused {
-        None => {
-            let Ok(floors) = floors_of(&reuses) else {
-                return Err(Fault::Memory);
-            };
-            let bytes = buffer.bytes_read();
-            Ok((pass.into_curve(), requests, size, bytes, floors))
-        }
-        Some(fault) => Err(fault),
+
+    /// Returns the curve of the lines that were kept, the size of all, and the floors of the kept ones if they are asked for.
+    pub(super) fn into_curve(self) -> Result<(SizedCurve<A>, usize, Option<Floors<A>>), AllocError>
+    where
+        S: Drop,
+        ensures curve { (floored : Bool) (n : ℕ) (lines : List (List ℕ)) → HasTakenOf floored n lines self.size self.pass self.reuses
+            → IfOk result (λ found. IsSizedCurveOf bytes_eq weight_of_line (kept_of n lines) found.0
+            × AreFloorsFor floored (kept_of n lines) found.2) }
+        ensures size { IfOk result (λ found. found.1 ≡ self.size) }
+    {
+        let floors = floors_of(&self.reuses)?;
+        let SizedLines {
+            one_in: _,
+            pass,
+            reuses: _,
+            size,
+        } = self;
+        Ok((pass.into_curve(), size, floors))
     }
 }
 
-/// Returns the size of all lines with one more, of this number, which is taken if the sample keeps it.
-pub(super) fn count_and_take<S: BuildHasher, A: Allocator + Copy>(
-    one_in: NonZeroUsize,
-    pass: &mut SizedLinePass<S, A>,
-    reuses: &mut Option<FloorPass<OwnedKey<A>, A>>,
-    key: &OwnedKey<A>,
-    number: usize,
-    size: usize,
-    behind: &[u8],
-) -> Result<usize, Fault>
-    requires { (floored : Bool) × (lines : List (List ℕ)) × HasTaken floored lines pass.old reuses.old }
-    ensures taken { (floored : Bool) (lines : List (List ℕ))
-        → HasTakenOf floored (non_zero_usize_get one_in) lines size pass.old reuses.old → IfOk result (λ more.
-        HasTakenOf floored (non_zero_usize_get one_in) (lines ++ line_of key.now ∷ []) more pass.new reuses.new) }
-    ensures refused { (lines rest : List (List ℕ)) → HaveSizes lines → size ≡ size_of_lines lines
-        → number ≡ length lines + 1 → IfErr result (λ fault. IsOfLines fault (lines ++ line_of key.now ∷ rest)) }
-    ensures next { (rest : List (List ℕ)) → IfOk result (λ more.
-        fault_from number size (line_of key.now ∷ rest) ≡ fault_from (number + 1) more rest) }
-    ensures fault { (rest : List (List ℕ)) → IfErr result (λ fault. is_of_input fault ≡ true
-        → fault_from number size (line_of key.now ∷ rest) ≡ Some fault) }
-{
-    let more = match count_line(&key.0, number, size) {
-        Ok(more) => more,
-        Err(fault) => return Err(fault),
-    };
-    match take_kept(one_in, pass, reuses, key, more - size - 1, behind) {
-        Ok(()) => Ok(more),
-        Err(_) => Err(Fault::Memory),
+impl<S: BuildHasher, A: Allocator + Copy> TakesLines<Fault, A> for SizedLines<S, A> {
+    // A floor is asked for if its pass was there at first.
+    ghost since = { λ start lines now. (now.one_in ≡ start.one_in)
+        × HasTakenOf (is_some start.reuses) (non_zero_usize_get now.one_in) lines now.size now.pass now.reuses };
+
+    ghost refused = { λ start lines fault now. HaveFault lines fault };
+
+    fn take_line(
+        &mut self,
+        line: &OwnedKey<A>,
+        number: usize,
+        behind: &[u8],
+    ) -> Result<Result<(), Fault>, AllocError> {
+        let more = match count_line(&line.0, number, self.size) {
+            Ok(more) => more,
+            Err(fault) => return Ok(Err(fault)),
+        };
+        let weight = more - self.size - 1;
+        take_kept(
+            self.one_in,
+            &mut self.pass,
+            &mut self.reuses,
+            line,
+            weight,
+            behind,
+        )?;
+        self.size = more;
+        Ok(Ok(()))
     }
 }
 

@@ -17,7 +17,7 @@ ghost use Rattle.clru_report.specs.Timed.{IsTableAt, IsTimedReportIn, IsUntimed}
 use super::lines::{TakesRequests, TimedLines};
 use super::{all_of, kept_in, part_in};
 use crate::capacities::usual_capacities;
-use crate::reading::read_lines;
+use crate::reading::read_all;
 use crate::rows::Row;
 use crate::sample::rows_times;
 use crate::table::table_of;
@@ -52,7 +52,7 @@ pub(super) fn aged_report<R: Read, S: BuildHasher + Drop, A: Allocator + Copy>(
         pass,
         key: OwnedKey(Vec::new(alloc)),
     };
-    let (read, _) = read_lines(alloc, reader, &mut lines)?;
+    let (read, _) = read_all(alloc, reader, &mut lines)?;
     let part = part_in(options.sample);
     let all = all_of(options.sample, read);
     let keys = lines.pass.distinct_size();

@@ -7,9 +7,8 @@ ghost use Rattle.clru_text.specs.Times.{rest_of_line, time_of_line};
 ghost use Rattle.clru_text.specs.declared.lines.OwnedKey.{OwnedKey};
 ghost use Rattle.clru_report.specs.TimedPasses.{HasTakenTimed};
 
-use crate::reading::TakesLines;
 use crate::sized::count_line;
-use clru_text::{Fault, OwnedKey, is_kept, split_time};
+use clru_text::{Fault, OwnedKey, TakesLines, is_kept, split_time};
 use std::alloc::{AllocError, Allocator};
 use std::num::NonZeroUsize;
 
@@ -42,20 +41,24 @@ pub(super) struct TimedLines<P, A: Allocator> {
     pub(super) key: OwnedKey<A>,
 }
 
-impl<P: TakesRequests<A>, A: Allocator + Copy> TakesLines for TimedLines<P, A> {
-    ghost use Rattle.clru_text.specs.Faults.{is_of_input};
+impl<P: TakesRequests<A>, A: Allocator + Copy> TakesLines<Fault, A> for TimedLines<P, A> {
     ghost use Rattle.clru_report.specs.Timed.{IsUntimed};
 
     ghost since = { λ start lines now. (now.one_in ≡ start.one_in)
         × HasTakenTimed (P.since (λ _. 0) start.pass) (non_zero_usize_get now.one_in) lines now.pass };
 
-    ghost refused = { λ fault lines. is_of_input fault ≡ true → IsUntimed fault lines };
+    ghost refused = { λ start lines fault now. IsUntimed fault lines };
 
-    fn take_line(&mut self, line: &[u8], number: usize) -> Result<(), Fault> {
-        let Some((time, rest)) = split_time(line) else {
-            return Err(Fault::NoSize(number));
+    fn take_line(
+        &mut self,
+        line: &OwnedKey<A>,
+        number: usize,
+        _behind: &[u8],
+    ) -> Result<Result<(), Fault>, AllocError> {
+        let Some((time, rest)) = split_time(&line.0) else {
+            return Ok(Err(Fault::NoSize(number)));
         };
-        match take_kept(
+        take_kept(
             self.alloc,
             self.one_in,
             &mut self.pass,
@@ -63,10 +66,8 @@ impl<P: TakesRequests<A>, A: Allocator + Copy> TakesLines for TimedLines<P, A> {
             rest,
             time,
             0,
-        ) {
-            Ok(_) => Ok(()),
-            Err(_) => Err(Fault::Memory),
-        }
+        )?;
+        Ok(Ok(()))
     }
 }
 
@@ -78,31 +79,33 @@ pub(super) struct SizedTimedLines<P, A: Allocator> {
     pub(super) distinct: usize,
 }
 
-impl<P: TakesRequests<A>, A: Allocator + Copy> TakesLines for SizedTimedLines<P, A> {
-    ghost use Rattle.clru_text.specs.Faults.{is_of_input};
+impl<P: TakesRequests<A>, A: Allocator + Copy> TakesLines<Fault, A> for SizedTimedLines<P, A> {
     ghost use Rattle.clru_text.specs.Sizes.{weight_of_line};
     ghost use Rattle.clru_text.specs.Times.{rests_of};
-    ghost use Rattle.clru_report.specs.Passes.{IsOfLines};
-    ghost use Rattle.clru_report.specs.Refusals.{fault_from};
+    ghost use Rattle.clru_report.specs.SizedLines.{HaveFault};
     ghost use Rattle.clru_report.specs.SizedTimedPasses.{HasTakenSizedTimed};
 
     ghost since = { λ start lines now. (now.lines.one_in ≡ start.lines.one_in)
         × HasTakenSizedTimed (P.since weight_of_line start.lines.pass) (non_zero_usize_get now.lines.one_in) lines now.size now.lines.pass };
 
-    ghost refused = { λ fault lines. IsOfLines fault (rests_of lines)
-        × (is_of_input fault ≡ true → fault_from 1 0 (rests_of lines) ≡ Some fault) };
+    ghost refused = { λ start lines fault now. HaveFault (rests_of lines) fault };
 
-    fn take_line(&mut self, line: &[u8], number: usize) -> Result<(), Fault> {
-        let Some((time, rest)) = split_time(line) else {
-            return Err(Fault::NoSize(number));
+    fn take_line(
+        &mut self,
+        line: &OwnedKey<A>,
+        number: usize,
+        _behind: &[u8],
+    ) -> Result<Result<(), Fault>, AllocError> {
+        let Some((time, rest)) = split_time(&line.0) else {
+            return Ok(Err(Fault::NoSize(number)));
         };
         let more = match count_line(rest, number, self.size) {
             Ok(more) => more,
-            Err(fault) => return Err(fault),
+            Err(fault) => return Ok(Err(fault)),
         };
         let weight = more - self.size - 1;
         let lines = &mut self.lines;
-        match take_kept(
+        let new = take_kept(
             lines.alloc,
             lines.one_in,
             &mut lines.pass,
@@ -110,14 +113,10 @@ impl<P: TakesRequests<A>, A: Allocator + Copy> TakesLines for SizedTimedLines<P,
             rest,
             time,
             weight,
-        ) {
-            Ok(new) => {
-                self.size = more;
-                self.distinct = self.distinct.saturating_add(usize::from(new));
-                Ok(())
-            }
-            Err(_) => Err(Fault::Memory),
-        }
+        )?;
+        self.size = more;
+        self.distinct = self.distinct.saturating_add(usize::from(new));
+        Ok(Ok(()))
     }
 }
 

@@ -11,7 +11,7 @@ ghost use Rattle.clru_report.specs.TimedPasses.{IsTimedCurveOf, IsTimedLinePass}
 
 use super::line_pass::{LatestLines, TimedLinePass};
 use super::lines::{TakesRequests, TimedLines};
-use crate::reading::read_lines;
+use crate::reading::read_all;
 use clru_curve::{MissCurve, PositionPass};
 use clru_text::{Fault, OwnedKey};
 use std::alloc::{AllocError, Allocator};
@@ -44,7 +44,7 @@ pub(super) fn curve_of_times<R: Read, S: BuildHasher + Drop, A: Allocator + Copy
         },
         key: OwnedKey(Vec::new(alloc)),
     };
-    let (requests, bytes) = read_lines(alloc, reader, &mut lines)?;
+    let (requests, bytes) = read_all(alloc, reader, &mut lines)?;
     let TimedLines {
         alloc: _,
         one_in: _,

@@ -21,7 +21,7 @@ use super::aged::{aged_pass_of, capacities_in, is_json, number_at};
 use super::by_size::{names_too_small, size_of_all};
 use super::lines::{SizedTimedLines, TimedLines};
 use super::{all_of, kept_in, part_in};
-use crate::reading::read_lines;
+use crate::reading::read_all;
 use crate::sized::{SizedRow, Totals, sized_rows_times, sized_table_of};
 use clru_curve::SizedAgedPass;
 use clru_text::{Fault, Options, OwnedKey, Times};
@@ -59,7 +59,7 @@ pub(super) fn sized_aged_report<R: Read, S: BuildHasher + Drop, A: Allocator + C
         size: 0,
         distinct: 0,
     };
-    let (read, _) = read_lines(alloc, reader, &mut sized)?;
+    let (read, _) = read_all(alloc, reader, &mut sized)?;
     let pass = &sized.lines.pass;
     let first = first_of(pass);
     if names_too_small(options, first) {

@@ -14,7 +14,7 @@ ghost use Rattle.clru_report.specs.TimedPasses.{IsTimedLinePass};
 
 use super::line_pass::{LatestLines, TimedLinePass};
 use super::lines::{SizedTimedLines, TakesRequests, TimedLines};
-use crate::reading::read_lines;
+use crate::reading::read_all;
 use clru_curve::{SizedCurve, SizedPositionPass};
 use clru_text::{Fault, OwnedKey};
 use std::alloc::{AllocError, Allocator};
@@ -54,7 +54,7 @@ pub(super) fn curve_of_sized_times<R: Read, S: BuildHasher + Drop, A: Allocator 
         size: 0,
         distinct: 0,
     };
-    let (requests, bytes) = read_lines(alloc, reader, &mut sized)?;
+    let (requests, bytes) = read_all(alloc, reader, &mut sized)?;
     let SizedTimedLines {
         lines,
         size,

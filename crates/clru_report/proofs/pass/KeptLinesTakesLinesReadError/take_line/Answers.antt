@@ -1,4 +1,4 @@
-use Rattle.std.proofs.Common.{[], ◌∷◌, ◌++◌, is_some, sym, subst}
+use Rattle.std.proofs.Common.{[], ◌∷◌, is_some, sym, subst}
 use Rattle.std.proofs.lemmas.List.Elements.{filter-append}
 use Rattle.std.specs.Int.NonZero.{non_zero_usize_get}
 use Rattle.clru_text.specs.Keys.{line_of}

@@ -1,31 +1,19 @@
-use Rattle.std.proofs.Common.{◌≡◌, ◌+◌, ◌++◌, [], ◌∷◌, ◌<◌, suc, drop, length, length-take-le, take, take_all, append_assoc, append-nil, IsSome, refl, sym, ap, ◌∙◌, subst, arith}
-use Rattle.std.specs.Prelude.{bytes_eq}
+use Rattle.std.proofs.Common.{◌≡◌, ◌+◌, ◌++◌, [], ◌∷◌, ◌<◌, suc, drop, is_some, IfErr, OnOk, length, length-take-le, take, take_all, refl, sym, ap, ◌∙◌, subst, arith}
 use Rattle.std.specs.Int.NonZero.{non_zero_usize_get}
 use Rattle.std.proofs.lemmas.List.{length-map}
-use Rattle.std.proofs.lemmas.List.Elements.{All-nil}
-use Rattle.clru_curve.specs.SizedCurves.{IsSizedCurveOf}
 use Rattle.clru_text.specs.Keys.{line_of}
 use Rattle.clru_text.specs.Samples.{kept_of}
-use Rattle.clru_text.specs.Sizes.{HaveSizes, size_of_line, weight_of_line}
 use Rattle.clru_report.specs.KeyLogs.{line_at, lines_in}
-use Rattle.clru_report.specs.Passes.{AreFloorsFor, IsOfLines}
-use Rattle.clru_report.specs.Refusals.{fault_from}
-use Rattle.clru_report.specs.Sizes.{size_of_lines}
+use Rattle.clru_report.specs.SizedLinePasses.{HasTakenOf}
+use Rattle.clru_report.specs.SizedLines.{HaveFault}
 use Rattle.clru_report.proofs.FaultLemmas.{lines_unwritten}
 use Rattle.clru_report.proofs.KeyLines.{key_read, line_read, lines_around, one_more_line}
 use Rattle.clru_report.proofs.SettledCurves.{settled_curve}
-use Rattle.clru_report.proofs.TakenLines.{curve_taken}
+use Rattle.clru_report.proofs.SizedSamples.{added_free}
 use Rattle.clru_report.proofs.sized.one_size.curve_of_log.Goals as goal
 
 pub loop-index-init : goal.loop-index-init
-loop-index-init g c = (
-  record {
-    sizes = All-nil (λ line. IsSome (size_of_line line));
-    summed = refl;
-    taken = record { past = []; shown = refl; sizes = All-nil (λ line. IsSome (size_of_line line)); taken = c.new-pass.ensures; floored = c.floor_pass_for-reuses.ensures weight_of_line };
-  },
-  λ rest. refl,
-)
+loop-index-init g c = (refl, c.new-lines.ensures.taken)
 
 pub index-requires : goal.index-requires
 index-requires g c =
@@ -38,9 +26,15 @@ index-requires-in-loop-index g c =
     let low : c.loop-index.index < length c.args.log.now.requests.items = omega (arith, c.loop-index-test.true, c.len-index-end.ensures) in
     omega (arith, key_read c.args.log.now c.loop-index.index c.index-number.result.now c.requires low c.index-number.ensures)
 
-pub count_and_take-requires : goal.count_and_take-requires
-count_and_take-requires g c =
-    (c.args.floored, kept_of (non_zero_usize_get c.args.one_in) (take c.loop-index.index (lines_in c.args.log.now)), c.loop-index.invariant.0.taken)
+pub take_line-requires : goal.take_line-requires
+take_line-requires g c =
+    let log = c.args.log.now in let i = c.loop-index.index in
+    let low : i < length log.requests.items = omega (arith, c.loop-index-test.true, c.len-index-end.ensures) in (
+      c.new-lines.result,
+      take i (lines_in log),
+      c.loop-index.invariant,
+      omega (arith, low, length-take-le i (lines_in log), length-map log.requests.items (line_at log)),
+    )
 
 pub loop-index-preserved : goal.loop-index-preserved
 loop-index-preserved g c =
@@ -51,11 +45,10 @@ loop-index-preserved g c =
     c.index.ensures c.index-in-loop-index.ensures c.in-Ok.ensures in
     let more : take (i + 1) (lines_in log) ≡ lines ++ line_of c.write_line.new.line ∷ [] =
     one_more_line log i low ∙ ap (λ l. lines ++ l ∷ []) (sym line) in
-    let so = c.loop-index.invariant in let e = c.in-Ok-count_and_take.ensures in (
-      rw more (e.taken c.args.floored lines so.0),
-      λ rest. ap (λ ls. fault_from 1 0 (ls ++ rest)) more ∙ ap (fault_from 1 0) (append_assoc lines (line_of c.write_line.new.line ∷ []) rest)
-          ∙ so.1 (line_of c.write_line.new.line ∷ rest) ∙ e.next rest,
-    )
+    rw more (subst (λ r. OnOk r ((c.take_line.new.self.one_in ≡ c.new-lines.result.one_in)
+    × HasTakenOf (is_some c.new-lines.result.reuses) (non_zero_usize_get c.take_line.new.self.one_in) (lines ++ line_of c.write_line.new.line ∷ [])
+    c.take_line.new.self.size c.take_line.new.self.pass c.take_line.new.self.reuses)) c.in-Ok-taken.is (c.in-Ok-take_line.ensures.taken c.new-lines.result lines c.loop-index.invariant
+    (omega (arith, low, length-take-le i (lines_in log), length-map log.requests.items (line_at log)))))
 
 pub returns-in-Err-clause-refused : goal.returns-in-Err-clause-refused
 returns-in-Err-clause-refused g c of =
@@ -66,41 +59,43 @@ returns-in-Err-clause-refused g c of =
     c.index.ensures c.index-in-loop-index.ensures c.in-Ok.ensures in
     let around : all ≡ take i all ++ line_of c.write_line.new.line ∷ rest =
     lines_around log i low ∙ ap (λ l. take i all ++ l ∷ rest) (sym line) in
-    let so = c.loop-index.invariant in let e = c.in-Err.ensures in (
-      subst (IsOfLines c.in-Err.fault) (sym around) (e.refused (take i all) rest so.0.sizes so.0.summed
-          (omega (arith, low, length-take-le i all, length-map log.requests.items (line_at log)))),
-      ap (fault_from 1 0) around ∙ so.1 (line_of c.write_line.new.line ∷ rest) ∙ e.fault rest of,
-    )
+    subst (λ ls. HaveFault ls c.in-Err.fault) (sym around)
+    (subst (λ r. IfErr r (HaveFault (take i all ++ line_of c.write_line.new.line ∷ rest))) c.in-Err.is
+    (c.in-Ok-take_line.ensures.refused c.new-lines.result (take i all) rest c.loop-index.invariant
+    (omega (arith, low, length-take-le i all, length-map log.requests.items (line_at log)))))
 
 pub returns-in-Err-clause-fault : goal.returns-in-Err-clause-fault
 returns-in-Err-clause-fault g c =
-    let so = c.loop-index.invariant in let log = c.args.log.now in let i = c.loop-index.index in let all = lines_in log in
+    let log = c.args.log.now in let i = c.loop-index.index in let all = lines_in log in
     let low : i < length log.requests.items = omega (arith, c.loop-index-test.true, c.len-index-end.ensures) in
-    lines_unwritten _ c.in-Err.fault (c.in-Err.ensures.refused (take i all) [] so.0.sizes so.0.summed
-    (omega (arith, low, length-take-le i all, length-map log.requests.items (line_at log))))
+    lines_unwritten _ c.in-Err.fault (subst (λ r. IfErr r (HaveFault (take i all ++ line_of c.write_line.new.line ∷ []))) c.in-Err.is
+    (c.in-Ok-take_line.ensures.refused c.new-lines.result (take i all) [] c.loop-index.invariant
+    (omega (arith, low, length-take-le i all, length-map log.requests.items (line_at log))))).0
 
-pub returns-clause-curve : goal.returns-clause-curve
-returns-clause-curve g c input =
-    let log = c.args.log.now in let all = lines_in log in let kept = kept_of (non_zero_usize_get c.args.one_in) in
+pub returns-in-Ok-into_curve-clause-curve : goal.returns-in-Ok-into_curve-clause-curve
+returns-in-Ok-into_curve-clause-curve g c input =
+    let log = c.args.log.now in let all = lines_in log in let n = non_zero_usize_get c.args.one_in in
     let long = length-map log.requests.items (line_at log) in
     let whole : take c.loop-index.index all ≡ all =
     take_all c.loop-index.index all (omega (arith, long, c.loop-index-test.false, c.len-index-end.ensures)) in
-    let so = c.loop-index.invariant in let taken = so.0.taken in let floors = c.in-Ok-floors_of.floors in (
+    let so = c.loop-index.invariant in let now = c.loop-index.lines in let first = c.new-lines.result in
+    let kept = subst (λ k. HasTakenOf (is_some first.reuses) k (take c.loop-index.index all) now.size now.pass now.reuses)
+    (ap non_zero_usize_get (so.0 ∙ c.new-lines.ensures.sample)) so.1 in
+    let of_all = subst (λ ls. HasTakenOf (is_some first.reuses) n ls now.size now.pass now.reuses) whole kept in
+    let has = subst (λ b. HasTakenOf b n all now.size now.pass now.reuses) c.new-lines.ensures.floored of_all in
+    let e = c.in-Ok-into_curve.ensures in let made = e.curve c.args.floored n all has in (
       record {
-        sizes = subst HaveSizes whole so.0.sizes;
-        of_kept = subst (λ ls. IsSizedCurveOf bytes_eq weight_of_line (kept ls) c.into_curve.result) whole
-            (curve_taken c.args.floored (kept (take c.loop-index.index all)) c.loop-index.pass c.loop-index.reuses taken c.into_curve.result
-            c.into_curve.ensures);
-        no_fault = ap (fault_from 1 0) (sym whole ∙ sym (append-nil (take c.loop-index.index all))) ∙ so.1 [];
+        sizes = has.added.sizes;
+        of_kept = made.0;
+        no_fault = added_free all now.size has.added;
         counted = sym long;
-        summed = so.0.summed ∙ ap size_of_lines whole;
+        summed = e.size ∙ has.added.summed;
         in_bytes = refl;
       },
-      subst (λ ls. AreFloorsFor c.args.floored (kept ls) floors) whole
-          (subst (λ ls. AreFloorsFor c.args.floored ls floors) taken.shown (c.in-Ok-floors_of.ensures c.args.floored taken.past taken.floored)),
+      made.1,
     )
 
-pub returns-clause-settled : goal.returns-clause-settled
-returns-clause-settled g c =
-    settled_curve (kept_of (non_zero_usize_get c.args.one_in) (lines_in c.args.log.now)) c.into_curve.result
-    (returns-clause-curve g c []).0.of_kept
+pub returns-in-Ok-into_curve-clause-settled : goal.returns-in-Ok-into_curve-clause-settled
+returns-in-Ok-into_curve-clause-settled g c =
+    settled_curve (kept_of (non_zero_usize_get c.args.one_in) (lines_in c.args.log.now)) c.in-Ok-into_curve.found.0
+    (returns-in-Ok-into_curve-clause-curve g c []).0.of_kept

@@ -12,11 +12,11 @@ use Rattle.clru_report.specs.Capacities.{aged_capacities}
 use Rattle.clru_report.specs.Timed.{IsTableAt, all_by, kept_in, misses_in_age, part_in}
 use Rattle.clru_report.specs.TimedPasses.{HasTakenTimed}
 use Rattle.clru_report.proofs.AgedCapacities.{aged_keys_alike, numbers_at}
-use Rattle.clru_report.proofs.TimedLines.{aged_keys, aged_own, aged_taken, timed_start}
+use Rattle.clru_report.proofs.TimedLines.{aged_keys, aged_own, aged_taken, timed_start, untimed_unwritten}
 use Rattle.clru_report.proofs.timed.aged.aged_report.Goals as goal
 
-pub read_lines-requires : goal.read_lines-requires
-read_lines-requires g c =
+pub read_all-requires-clause-begun : goal.read_all-requires-clause-begun
+read_all-requires-clause-begun g c =
     let pass = c.in-Ok.pass in let is = c.in-Ok.ensures (λ _. 0) in (
       refl,
       timed_start (λ past p. IsAgedPass same_line pass.fetches.capacities pass.idle pass.fetches.age past p)
@@ -25,11 +25,14 @@ read_lines-requires g c =
           is.places is.idle_limit is.age_limit is),
     )
 
+pub read_all-requires-clause-unwritten : goal.read_all-requires-clause-unwritten
+read_all-requires-clause-unwritten g c lines fault now why = untimed_unwritten lines fault why
+
 pub returns-in-Ok-table_of_misses-clause-report : goal.returns-in-Ok-table_of_misses-clause-report
 returns-in-Ok-table_of_misses-clause-report g c =
     let options = c.args.options.now in let sample = options.sample in let limits = c.args.limits in let age = c.args.age in
     let pass = c.in-Ok.pass in let is = c.in-Ok.ensures (λ _. 0) in let cs = aged_capacities options.capacities (2 ^ 64 - 1) in
-    let now = c.read_lines.new.taker in let read = c.in_ok-read.ensures.taken in let got = read.3.taken in
+    let now = c.read_all.new.taker in let read = c.in_ok-read.ensures.taken in let got = read.3.taken in
     let kept = kept_requests (kept_in sample) (requests_of (lines_of read.0)) in
     let has = subst (λ n. HasTakenTimed (λ past p. IsAgedPass same_line pass.fetches.capacities pass.idle pass.fetches.age past p) n
     (lines_of read.0) now.pass) (ap non_zero_usize_get got.0 ∙ c.kept_in.ensures) got.1 in

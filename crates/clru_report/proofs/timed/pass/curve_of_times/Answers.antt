@@ -7,11 +7,11 @@ use Rattle.clru_text.specs.Keys.{same_line}
 use Rattle.clru_text.specs.Lines.{lines_of}
 use Rattle.clru_text.specs.Times.{kept_requests, requests_of}
 use Rattle.clru_report.specs.TimedPasses.{HasTakenTimed, IsNoted, IsTimedLinePass}
-use Rattle.clru_report.proofs.TimedLines.{idle_taken, kinds_taken, timed_start}
+use Rattle.clru_report.proofs.TimedLines.{idle_taken, kinds_taken, timed_start, untimed_unwritten}
 use Rattle.clru_report.proofs.timed.pass.curve_of_times.Goals as goal
 
-pub read_lines-requires : goal.read_lines-requires
-read_lines-requires g c =
+pub read_all-requires-clause-begun : goal.read_all-requires-clause-begun
+read_all-requires-clause-begun g c =
     let table = c.new.result in (
       refl,
       timed_start (IsTimedLinePass (IsPositionPass same_line table.limit) table.limit) (non_zero_usize_get c.args.one_in) _ (record {
@@ -20,10 +20,13 @@ read_lines-requires g c =
       }),
     )
 
+pub read_all-requires-clause-unwritten : goal.read_all-requires-clause-unwritten
+read_all-requires-clause-unwritten g c lines fault now why = untimed_unwritten lines fault why
+
 pub returns-clause-curve : goal.returns-clause-curve
 returns-clause-curve g c =
     let limit = c.new.result.limit in let Is = IsTimedLinePass (IsPositionPass same_line limit) limit in
-    let now = c.read_lines.new.taker in let read = c.in_ok-requests.ensures.taken in let got = read.3.taken in
+    let now = c.read_all.new.taker in let read = c.in_ok-requests.ensures.taken in let got = read.3.taken in
     let lines = lines_of read.0 in let n = non_zero_usize_get c.args.one_in in
     let kept = kept_requests n (requests_of lines) in let curve = c.into_curve-curve.result in
     let has = subst (λ k. HasTakenTimed Is k lines now.pass) (ap non_zero_usize_get got.0) got.1 in

@@ -22,12 +22,14 @@ use Rattle.clru_report.specs.Timed.{all_by, kept_in, part_in}
 use Rattle.clru_report.proofs.AgedCapacities.{aged_missed_alike, aged_misses_alike, numbers_at}
 use Rattle.clru_report.proofs.SettledCurves.{same_weights}
 use Rattle.clru_report.proofs.SizedTimedForms.{none_small, small_alike, too_small, whole_first}
-use Rattle.clru_report.proofs.SizedTimedLines.{sized_aged_first, sized_aged_missed, sized_aged_misses, sized_aged_size, sized_free, sized_start}
+use Rattle.clru_report.proofs.FaultLemmas.{lines_unwritten}
+use Rattle.clru_report.proofs.SizedSamples.{added_free}
+use Rattle.clru_report.proofs.SizedTimedLines.{sized_aged_first, sized_aged_missed, sized_aged_misses, sized_aged_size, sized_start}
 use Rattle.clru_report.proofs.TimedLines.{aged_own}
 use Rattle.clru_report.proofs.timed.sized_aged.sized_aged_report.Goals as goal
 
-pub read_lines-requires : goal.read_lines-requires
-read_lines-requires g c =
+pub read_all-requires-clause-begun : goal.read_all-requires-clause-begun
+read_all-requires-clause-begun g c =
     let pass = c.in-Ok.pass in let is = c.in-Ok.ensures weight_of_key in (
       refl,
       sized_start (λ past p. IsSizedAgedPass same_line weight_of_key pass.fetches.capacities pass.idle pass.fetches.age past p)
@@ -36,12 +38,15 @@ read_lines-requires g c =
           is.places is.idle_limit is.age_limit is),
     )
 
+pub read_all-requires-clause-unwritten : goal.read_all-requires-clause-unwritten
+read_all-requires-clause-unwritten g c lines fault now why = lines_unwritten (rests_of lines) fault why.0
+
 pub returns-in-Ok-table_of_sizes-clause-report : goal.returns-in-Ok-table_of_sizes-clause-report
 returns-in-Ok-table_of_sizes-clause-report g c =
     let options = c.args.options.now in let sample = options.sample in let limits = c.args.limits in let age = c.args.age in
     let pass = c.in-Ok.pass in let is = c.in-Ok.ensures weight_of_key in let cs = aged_capacities options.capacities (2 ^ 64 - 1) in
     let caps = pass.fetches.capacities in let idle = pass.idle in let old = pass.fetches.age in
-    let now = c.read_lines.new.taker in let read = c.in_ok-read.ensures.taken in let got = read.3.taken in let lines = lines_of read.0 in
+    let now = c.read_all.new.taker in let read = c.in_ok-read.ensures.taken in let got = read.3.taken in let lines = lines_of read.0 in
     let kept = kept_requests (kept_in sample) (requests_of lines) in
     let has = subst (λ n. HasTakenSizedTimed (λ past p. IsSizedAgedPass same_line weight_of_key caps idle old past p) n lines now.size now.lines.pass)
     (ap non_zero_usize_get got.0 ∙ c.kept_in.ensures) got.1 in
@@ -60,7 +65,7 @@ returns-in-Ok-table_of_sizes-clause-report g c =
     ∙ ap (λ a. map (λ k. aged_missed_size bytes_eq weight_of_line limits.max_idle a k kept) cs) is.age_limit in
     let first = sized_aged_first caps idle old kept now.lines.pass has.timed.taken c.first_of-first.result
     (λ past of. c.first_of-first.ensures caps idle old past of) in
-    let free = sized_free (λ past p. IsSizedAgedPass same_line weight_of_key caps idle old past p) (kept_in sample) lines now.size now.lines.pass has in
+    let free = added_free (rests_of lines) now.size has.added in
     let small = sym (small_alike options lines sample c.first_of-first.result first) ∙ sym c.names_too_small.ensures ∙ c.if-names_too_small.false in
     let n = part_in sample in let all = all_by sample (length lines) in let g = greatest_size (keys_of kept) in
     let d = distinct_size (keys_of kept) in let own = c.distinct_size-together.result in
@@ -82,9 +87,9 @@ returns-in-Ok-table_of_sizes-clause-report g c =
       read.2,
       (
         has.timed.timed,
-        has.sizes,
+        has.added.sizes,
         none_small options (rests_of lines) free sample small,
-        subst (λ k. IsSizedTableAt options m s g d n all k text) (c.size_of_all.ensures ∙ ap (size_by sample) has.summed) of_all,
+        subst (λ k. IsSizedTableAt options m s g d n all k text) (c.size_of_all.ensures ∙ ap (size_by sample) has.added.summed) of_all,
       ),
     )
 
@@ -92,18 +97,18 @@ pub returns-then-names_too_small-clause-refused : goal.returns-then-names_too_sm
 returns-then-names_too_small-clause-refused g c of =
     let options = c.args.options.now in let sample = options.sample in let pass = c.in-Ok.pass in
     let caps = pass.fetches.capacities in let idle = pass.idle in let old = pass.fetches.age in
-    let now = c.read_lines.new.taker in let read = c.in_ok-read.ensures.taken in let got = read.3.taken in let lines = lines_of read.0 in
+    let now = c.read_all.new.taker in let read = c.in_ok-read.ensures.taken in let got = read.3.taken in let lines = lines_of read.0 in
     let kept = kept_requests (kept_in sample) (requests_of lines) in
     let has = subst (λ n. HasTakenSizedTimed (λ past p. IsSizedAgedPass same_line weight_of_key caps idle old past p) n lines now.size now.lines.pass)
     (ap non_zero_usize_get got.0 ∙ c.kept_in.ensures) got.1 in
     let first = sized_aged_first caps idle old kept now.lines.pass has.timed.taken c.first_of-first.result
     (λ past of. c.first_of-first.ensures caps idle old past of) in
-    let free = sized_free (λ past p. IsSizedAgedPass same_line weight_of_key caps idle old past p) (kept_in sample) lines now.size now.lines.pass has in
+    let free = added_free (rests_of lines) now.size has.added in
     let small = and_parts (is_whole sample) (names_below options.capacities (greatest_size (rests_of lines)))
     (sym (small_alike options lines sample c.first_of-first.result first) ∙ sym c.names_too_small.ensures ∙ c.if-names_too_small.true) in (
       read.0,
       read.1,
       read.2,
       subst (λ k. IsRefusedBy sample (TooSmall k) options (rests_of lines)) (sym (first ∙ whole_first options lines sample small.0))
-          (too_small options (rests_of lines) free sample c.requires has.sizes small.0 small.1),
+          (too_small options (rests_of lines) free sample c.requires has.added.sizes small.0 small.1),
     )
