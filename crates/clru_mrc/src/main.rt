@@ -43,8 +43,11 @@ pub(crate) fn wrong(rt: &HostRuntime, line: &str) -> Refusal {
 
 // Does it, and gives the exit status.
 fn run_task(rt: &HostRuntime, asked: &Asked) -> u8 {
-    if let Task::Print(text) = &asked.task {
-        let outcome = write_report(&mut rt.stdout(), text.as_bytes());
+    if let Task::Print(text, more) = &asked.task {
+        let outcome = match write_report(&mut rt.stdout(), text.as_bytes()) {
+            Ok(()) => write_report(&mut rt.stdout(), more.as_bytes()),
+            fault => fault,
+        };
         return report_outcome(rt, &outcome, "");
     }
     let mut files = InputFiles::new(rt, &asked.paths);
@@ -63,7 +66,7 @@ fn run_task(rt: &HostRuntime, asked: &Asked) -> u8 {
             run_report(rt, options, files, progress, seed)
         }
         Task::Split(options) => split_budget(rt, *options, files, seed),
-        Task::Print(_) => 0,
+        Task::Print(_, _) => 0,
     }
 }
 

@@ -8,10 +8,21 @@ use std::env;
 use std::io::ErrorKind;
 use std::num::NonZeroUsize;
 
+// What `--help` prints of files, which this program alone reads.
+const FILES: &str = "
+Files
+    FILE ..      are read in this order, each up to its end, in place of
+                 standard input, which - names; behind -- each argument is one;
+                 one that cannot be read is named, with status 4
+
+An option may have its value behind =, as in --at=5,10.
+";
+
 /// What is to be done.
 #[derive(Drop)]
 pub(crate) enum Task {
-    Print(&'static str),
+    // These, one behind the other.
+    Print(&'static str, &'static str),
     Report(Options),
     Split(SplitOptions),
 }
@@ -138,8 +149,8 @@ impl Words {
             return Err(no_budget(rt, ""));
         }
         let task = match command {
-            Command::Help => Task::Print(HELP),
-            Command::Version => Task::Print(VERSION),
+            Command::Help => Task::Print(HELP, FILES),
+            Command::Version => Task::Print(VERSION, ""),
             Command::Report(options) => match budget {
                 Some(budget) => split_asked(rt, budget, &options)?,
                 None => Task::Report(options),
