@@ -1,0 +1,2 @@
+pub mod FirstsJoined
+pub mod JoinedTexts
