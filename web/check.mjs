@@ -118,8 +118,8 @@ function native(words, input) {
     const run = spawnSync(program, words, { input, maxBuffer: 1 << 28 });
     // (the program does not read all where words are refused)
     if (run.error && run.error.code !== "EPIPE") throw run.error;
-    // (the program also shows the beginning of a line without a size, and the class without room)
-    return [run.status, run.status === 0 ? run.stdout.toString("latin1") : run.stderr.toString("latin1").replace(/: (it begins|the class is) ".*/, "")];
+    // (the program also shows the beginning of a line without a size, and the class without room; its help also has files)
+    return [run.status, run.status === 0 ? run.stdout.toString("latin1").replace(/\nFiles\n[^]*$/, "") : run.stderr.toString("latin1").replace(/: (it begins|the class is) ".*/, "")];
 }
 
 let failed = 0, passed = 0;
